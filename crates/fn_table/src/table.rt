@@ -1,4 +1,5 @@
-ghost use Rattle.std.specs.Prelude.{◌≡◌, [], OnOk, OnErr};
+ghost use Rattle.std.specs.Prelude.{◌≡◌, ◌↔◌, [], IsNone, OnOk, OnErr};
+ghost use Rattle.std.specs.List.{Contains};
 ghost use Rattle.std.specs.Map.{keys_of};
 ghost use Rattle.std.specs.Option.{option_copied};
 ghost use Rattle.unum_json.specs.Keys.{IsRising, find_key, with_key};
@@ -63,7 +64,8 @@ impl Table {
 
     /// The function of a resource. `None` comes exactly where the table does not have that name.
     pub fn find(&self, resource: &[u8]) -> Option<&FnKind>
-        ensures { option_copied result ≡ find_key resource.now self.now }
+        ensures found { option_copied result ≡ find_key resource.now self.now }
+        ensures none { IsNone result ↔ ¬ Contains (keys_of self.now) resource.now }
     {
         self.rows.get(resource)
     }
