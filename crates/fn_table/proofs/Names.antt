@@ -17,9 +17,10 @@ module _ {V : Type 0} (k : List ℕ) where
   step : (b : Bool) (f : List ℕ × V) (fs : List (List ℕ × V)) → bytes_eq f.0 k ≡ b → Decides (is_some (find_key k fs)) (Contains (keys_of fs) k)
       → Decides (is_some (if b then Some f.1 else find_key k fs)) (Contains (keys_of (f ∷ fs)) k)
   step true f fs e later = (λ _. (0, omega arith, (bytes_eq-Decides f.0 k).0 e), λ _. refl)
-  step false f fs e later =
-      (λ h. let r = later.0 h in (suc r.0, omega (arith, r.1), r.2),
-      λ h. later.1 (Contains-tail f.0 (keys_of fs) k (λ s. let t : bytes_eq f.0 k ≡ true = (bytes_eq-Decides f.0 k).1 s in cc) h))
+  step false f fs e later = (
+    λ h. let r = later.0 h in (suc r.0, omega (arith, r.1), r.2),
+    λ h. later.1 (Contains-tail f.0 (keys_of fs) k (λ s. let t : bytes_eq f.0 k ≡ true = (bytes_eq-Decides f.0 k).1 s in cc) h),
+  )
 
   found : (fs : List (List ℕ × V)) → Decides (is_some (find_key k fs)) (Contains (keys_of fs) k)
   found [] = (λ h. cc h, λ h. absurd (omega (arith, h.1)))

@@ -2,9 +2,9 @@ ghost use Rattle.std.specs.Prelude.{◌≡◌, IfOk};
 ghost use Rattle.fn_table.specs.Answers.{answer, summed, broken_with};
 
 use crate::adding::sum_up;
-use crate::kind::{FnKind, copy_fault};
+use crate::kind::FnKind;
 use std::alloc::Global;
-use unum_json::{Fault, Json, NoMemory, Outcome, Text, copy};
+use unum_json::{Fault, Json, NoMemory, Outcome, Text, copy, copy_fault};
 
 /// The failure of a function that broke, with this cause.
 fn broken(alloc: Global, cause: &str) -> Result<Outcome, NoMemory>

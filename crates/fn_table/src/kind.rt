@@ -1,7 +1,7 @@
 ghost use Rattle.std.specs.Prelude.{◌≡◌, ◌↔◌, IfOk, IsTrue};
 
 use std::alloc::Global;
-use unum_json::{Fault, Json, NoMemory, Text, copy, same};
+use unum_json::{Fault, Json, NoMemory, copy, copy_fault, same, same_fault};
 
 /// A built-in function.
 #[derive(Drop)]
@@ -20,15 +20,6 @@ pub enum FnKind {
     Fail(Fault),
 }
 
-/// An equal fault.
-pub fn copy_fault(alloc: Global, fault: &Fault) -> Result<Fault, NoMemory>
-    ensures { IfOk result (λ f. f ≡ fault.now) }
-{
-    let error = Text::from_str(alloc, fault.error.as_str())?;
-    let cause = Text::from_str(alloc, fault.cause.as_str())?;
-    Ok(Fault { error, cause })
-}
-
 /// An equal function.
 pub fn copy_kind(alloc: Global, kind: &FnKind) -> Result<FnKind, NoMemory>
     ensures { IfOk result (λ k. k ≡ kind.now) }
@@ -41,12 +32,6 @@ pub fn copy_kind(alloc: Global, kind: &FnKind) -> Result<FnKind, NoMemory>
         FnKind::Flaky(every) => Ok(FnKind::Flaky(*every)),
         FnKind::Fail(fault) => Ok(FnKind::Fail(copy_fault(alloc, fault)?)),
     }
-}
-
-fn same_fault(a: &Fault, b: &Fault) -> bool
-    ensures { IsTrue result ↔ (a.now ≡ b.now) }
-{
-    a.error.as_bytes() == b.error.as_bytes() && a.cause.as_bytes() == b.cause.as_bytes()
 }
 
 /// Whether two functions are equal.

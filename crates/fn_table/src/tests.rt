@@ -10,14 +10,8 @@ const SUMS: [(&[i64], &str); 8] = [
     (&[0, 1], "{\"ok\":1}"),
     (&[3, 1], "{\"ok\":4}"),
     (&[-5, 2, -7], "{\"ok\":-10}"),
-    (
-        &[i64::MAX, -1, 1],
-        "{\"ok\":9223372036854775807}",
-    ),
-    (
-        &[i64::MIN, 1, -1],
-        "{\"ok\":-9223372036854775808}",
-    ),
+    (&[i64::MAX, -1, 1], "{\"ok\":9223372036854775807}"),
+    (&[i64::MIN, 1, -1], "{\"ok\":-9223372036854775808}"),
     (
         &[i64::MAX, 1, -1],
         "{\"fail\":{\"Cause\":\"sum\",\"Error\":\"States.TaskFailed\"}}",
@@ -123,7 +117,13 @@ fn finds_and_compares(rt: HostRuntime) -> Result<(), Fail> {
         table.insert(text(rt.alloc(), name)?, kind)?;
     }
     assert_eq!(rt; table.rows().len(), 3);
-    for (name, kind) in [("f", Some(0)), ("g", Some(5)), ("h", Some(3)), ("", None), ("gg", None)] {
+    for (name, kind) in [
+        ("f", Some(0)),
+        ("g", Some(5)),
+        ("h", Some(3)),
+        ("", None),
+        ("gg", None),
+    ] {
         let found = table.find(name.as_bytes());
         for (i, other) in kinds.iter().enumerate() {
             let same = found.is_some_and(|found| same_kind(found, other));
