@@ -1,0 +1,179 @@
+//! Workers over an engine that gives out a number of calls.
+use super::*;
+use fn_table::{Answered, BuiltIns, FnKind, Functions};
+use seat_lock::{Logged, SeatLock};
+use std::alloc::Global;
+use std::sync::atomic::{AtomicU64, Ordering};
+use std::test::*;
+use unum_json::{Json, NoMemory};
+
+/// How many turns the gate holds a call at most.
+const TURNS: u64 = 1_000_000_000;
+
+/// How many calls are wanted, and how many entries the log can have.
+#[derive(Clone, Copy, Drop)]
+struct Bounds {
+    wanted: u32,
+    most: usize,
+}
+
+/// Gives out the calls one by one. Its log has the ticket of each call that was answered.
+#[derive(Drop)]
+struct Calls {
+    bounds: Bounds,
+    given: u32,
+    items: Vec<u64>,
+}
+
+impl Logged for Calls {
+    type Opening = Bounds;
+
+    ghost opening = { λ c. c.bounds };
+
+    ghost log = { λ c. c.items.items };
+
+    fn length(&self) -> u64 {
+        self.items.len() as u64
+    }
+}
+
+impl Engine for Calls {
+    ghost use Rattle.std.specs.Prelude.{◌≡◌, ◌≤◌, ◌⊎◌, ◌++◌, ◌∷◌, [], length};
+
+    ghost idle = { λ o log. o.wanted ≤ length log };
+
+    ghost full = { λ o log. o.most ≤ length log };
+
+    ghost picked = { λ o before mine answer after. after ≡ before };
+
+    ghost handed = { λ o before call answer after. (after ≡ before) ⊎ (after ≡ before ++ call.ticket ∷ []) };
+
+    fn pick(&mut self, mine: Option<u32>) -> Pick {
+        if let Some(ticket) = mine {
+            return Pick::Call {
+                kind: FnKind::Ticket,
+                input: Json::Null,
+                ticket,
+            };
+        }
+        if self.items.len() >= self.bounds.wanted as usize {
+            return Pick::Idle;
+        }
+        if self.given >= self.bounds.wanted {
+            return Pick::Free;
+        }
+        self.given += 1;
+        Pick::Mine(self.given - 1)
+    }
+
+    fn hand(&mut self, done: &Answered) -> Pick {
+        if self.items.len() >= self.bounds.most {
+            return Pick::Spent;
+        }
+        match self.items.push(u64::from(done.ticket())) {
+            Ok(()) => Pick::Free,
+            Err(_) => Pick::NoMemory,
+        }
+    }
+}
+
+/// Finds no memory for any answer.
+#[derive(Drop)]
+struct Broke;
+
+impl Functions for Broke {
+    fn answer(&self, kind: &FnKind, input: &Json, ticket: u32) -> Result<Answered, NoMemory> {
+        let _ = kind;
+        let _ = input;
+        let _ = ticket;
+        Err(NoMemory)
+    }
+}
+
+/// Holds the first call until another is answered, and adds up the tickets.
+#[derive(Drop)]
+struct Held {
+    calls: AtomicU64,
+    answered: AtomicU64,
+    tickets: [AtomicU64; 2],
+    gave_up: AtomicU64,
+}
+
+impl Held {
+    fn new() -> Held {
+        Held {
+            calls: AtomicU64::new(0),
+            answered: AtomicU64::new(0),
+            tickets: [AtomicU64::new(0), AtomicU64::new(0)],
+            gave_up: AtomicU64::new(0),
+        }
+    }
+}
+
+impl Gate for Held {
+    fn before_call(&self, ticket: u32) {
+        self.tickets[0].fetch_add(u64::from(ticket), Ordering::SeqCst);
+        if self.calls.fetch_add(1, Ordering::SeqCst) > 0 {
+            return;
+        }
+        for _ in 0..TURNS {
+            if self.answered.load(Ordering::SeqCst) > 0 {
+                return;
+            }
+        }
+        self.gave_up.store(1, Ordering::SeqCst);
+    }
+
+    fn after_call(&self, ticket: u32) {
+        self.tickets[1].fetch_add(u64::from(ticket), Ordering::SeqCst);
+        self.answered.fetch_add(1, Ordering::SeqCst);
+    }
+}
+
+fn new_calls(alloc: Global, wanted: u32, most: usize) -> Result<Calls, Fail> {
+    Ok(Calls {
+        bounds: Bounds { wanted, most },
+        given: 0,
+        items: Vec::with_capacity(alloc, most)?,
+    })
+}
+
+#[test]
+fn two_calls_at_a_time(rt: HostRuntime) -> Result<(), Fail> {
+    let calls = new_calls(rt.alloc(), 40, 100)?;
+    let (lock, seat) = SeatLock::new(rt.alloc(), calls, 4).ok().ok_or("memory")?;
+    let gate = Held::new();
+    let Worked { seat, ended } = work_all(&rt, &lock, seat, &BuiltIns::new(rt.alloc()), &gate);
+    assert!(rt; ended == WorkEnd::Idle && seat.share() == 4);
+    let calls = lock.close(seat);
+    let mut sum = 0;
+    for ticket in calls.items.iter() {
+        sum = *ticket ^ sum;
+    }
+    assert_eq!(rt; (calls.items.len(), sum), (40, 0));
+    assert_eq!(rt; gate.gave_up.load(Ordering::SeqCst), 0);
+    assert_eq!(rt; gate.calls.load(Ordering::SeqCst), 40);
+    assert_eq!(rt; gate.answered.load(Ordering::SeqCst), 40);
+    for tickets in gate.tickets.iter() {
+        assert_eq!(rt; tickets.load(Ordering::SeqCst), 780);
+    }
+    Ok(())
+}
+
+#[test]
+fn a_full_log(rt: HostRuntime) -> Result<(), Fail> {
+    let calls = new_calls(rt.alloc(), 9, 2)?;
+    let (lock, seat) = SeatLock::new(rt.alloc(), calls, 1).ok().ok_or("memory")?;
+    let worked = work(&rt, &lock, seat, &BuiltIns::new(rt.alloc()), &Open);
+    assert!(rt; worked.ended == WorkEnd::Spent && worked.seat.seen() == 2);
+    Ok(())
+}
+
+#[test]
+fn a_function_with_no_memory(rt: HostRuntime) -> Result<(), Fail> {
+    let calls = new_calls(rt.alloc(), 9, 2)?;
+    let (lock, seat) = SeatLock::new(rt.alloc(), calls, 1).ok().ok_or("memory")?;
+    let worked = work(&rt, &lock, seat, &Broke, &Open);
+    assert!(rt; worked.ended == WorkEnd::NoMemory && worked.seat.seen() == 0);
+    Ok(())
+}

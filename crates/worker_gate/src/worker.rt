@@ -1,0 +1,109 @@
+//! The worker's loop.
+ghost use Rattle.std.specs.Prelude.{◌≡◌};
+ghost use mathlib.Core.List.{IsPrefix};
+ghost use Rattle.seat_lock.specs.Locks.{IsOf};
+ghost use Rattle.worker_gate.specs.Picks.{OnIdle, OnSpent, IsDone};
+ghost use Rattle.worker_gate.specs.Turns.{StepOf, RunOf};
+
+use crate::engine::Engine;
+use crate::gate::Gate;
+use crate::jobs::{Asks, Hands};
+use crate::pick::Pick;
+use fn_table::Functions;
+use seat_lock::{Seat, SeatLock};
+use std::sync::Wait;
+
+/// Why a worker stopped.
+#[derive(Clone, Copy, PartialEq, Eq, Debug, Drop)]
+pub enum WorkEnd {
+    /// There was nothing to do.
+    Idle,
+    /// The log had no room.
+    Spent,
+    /// Memory ran out, under the lock or in a function.
+    NoMemory,
+}
+
+/// A worker's seat, when the worker has stopped, and why it did.
+#[derive(Drop)]
+pub struct Worked<E: Engine> {
+    /// The seat.
+    pub seat: Seat<E>,
+    /// Why the worker stopped.
+    pub ended: WorkEnd,
+}
+
+/// One turn, and where it asks for a function, the call and the turn in which the answer is handed in.
+fn step<E: Engine, F: Functions, G: Gate, R: Wait>(
+    rt: &R,
+    lock: &SeatLock<E>,
+    seat: &mut Seat<E>,
+    mine: Option<u32>,
+    f: &F,
+    g: &G,
+) -> Pick
+    requires { IsOf lock.now seat.old }
+    ensures own { IsOf lock.now seat.new × (seat.new.share ≡ seat.old.share) }
+    ensures seen { IsPrefix seat.old.seen seat.new.seen }
+    ensures done { IsDone result }
+    ensures idle { OnIdle result (E.idle lock.now.opening seat.new.seen) }
+    ensures spent { OnSpent result (E.full lock.now.opening seat.new.seen) }
+    ensures turns { StepOf (E.picked lock.now.opening) (E.handed lock.now.opening) mine seat.old.seen result seat.new.seen }
+{
+    match lock.turn(rt, seat, Asks { mine }) {
+        Pick::Call {
+            kind,
+            input,
+            ticket,
+        } => {
+            g.before_call(ticket);
+            let answered = f.answer(&kind, &input, ticket);
+            g.after_call(ticket);
+            match answered {
+                Ok(done) => lock.turn(rt, seat, Hands { done: &done }),
+                Err(_) => Pick::NoMemory,
+            }
+        }
+        pick => pick,
+    }
+}
+
+/// Takes turns with the seat until there is nothing to do, the log has no room, or memory ran out. Between two turns it
+/// calls the functions that it is asked to call; the gate is told of each call.
+///
+/// It may wait, and promises no return. `Idle` and `Spent` are facts of the log that the returned seat has seen.
+/// `NoMemory` is the answer where a turn or a function found no memory.
+pub fn work<E: Engine, F: Functions, G: Gate, R: Wait>(
+    rt: &R,
+    lock: &SeatLock<E>,
+    mut seat: Seat<E>,
+    f: &F,
+    g: &G,
+) -> Worked<E>
+    requires { IsOf lock.now seat }
+    ensures own { IsOf lock.now result.seat × (result.seat.share ≡ seat.share) }
+    ensures seen { IsPrefix seat.seen result.seat.seen }
+    ensures idle { result.ended ≡ WorkEnd.Idle → E.idle lock.now.opening result.seat.seen }
+    ensures spent { result.ended ≡ WorkEnd.Spent → E.full lock.now.opening result.seat.seen }
+    ensures turns { RunOf (E.picked lock.now.opening) (E.handed lock.now.opening) seat.seen result.ended result.seat.seen }
+{
+    let mut mine = None;
+    for _ in rt.forever() {
+        let ended = match step(rt, lock, &mut seat, mine, f, g) {
+            Pick::Mine(attempt) => {
+                mine = Some(attempt);
+                continue;
+            }
+            Pick::Free => {
+                mine = None;
+                continue;
+            }
+            Pick::Idle => WorkEnd::Idle,
+            Pick::Spent => WorkEnd::Spent,
+            Pick::NoMemory => WorkEnd::NoMemory,
+            Pick::Call { .. } => unreachable!(),
+        };
+        return Worked { seat, ended };
+    }
+    unreachable!()
+}
