@@ -1,0 +1,4 @@
+pub mod Characters
+pub mod Turns
+pub mod Searches
+pub mod Tests

@@ -1,0 +1,6 @@
+pub mod Compared
+pub mod Comparing
+pub mod Evaluating
+pub mod Matching
+pub mod Searching
+pub mod formers

@@ -1,0 +1,90 @@
+ghost use Rattle.std.specs.Prelude.{◌≡◌};
+ghost use Rattle.choice_rules.specs.Comparing.{holds as holds_at, relates as related};
+
+use asl_paths::Path;
+use std::cmp::Ordering;
+use std::marker::Model;
+use unum_json::Json;
+
+/// What a comparison is about.
+#[derive(Clone, Copy, Debug, PartialEq, Eq)]
+pub enum OpKind {
+    /// Texts, ordered by their UTF-8 bytes.
+    Text,
+    /// Whole numbers.
+    Number,
+    /// Truth values.
+    Truth,
+}
+
+/// How the variable's value is to stand to the operand.
+#[derive(Clone, Copy, Debug, PartialEq, Eq)]
+pub enum Rel {
+    Equal,
+    Less,
+    LessEqual,
+    Greater,
+    GreaterEqual,
+}
+
+/// What the variable's value is compared with.
+#[derive(Drop)]
+pub enum Operand {
+    /// This value.
+    Constant(Json),
+    /// What a path finds.
+    Found(Path),
+}
+
+/// A comparison with an operand.
+///
+/// Truth values are compared by `Equal` alone, and an operand that is a constant is of the comparison's kind.
+#[derive(Drop)]
+pub struct Comparison {
+    pub kind: OpKind,
+    pub rel: Rel,
+    pub operand: Operand,
+}
+
+impl Model for Comparison {
+    ghost use Rattle.std.specs.Prelude.{IsTrue};
+    ghost use Rattle.choice_rules.specs.Compared.{Compared, is_sound};
+
+    ghost use Rattle.std.specs.Coded.{codes};
+    ghost use Rattle.choice_rules.specs.contracts.comparison.Operand as right;
+
+    ghost Value = { Compared };
+
+    ghost coded = { Prim.hlevel (codes, right.the_row.coded) };
+
+    ghost view = { λ c. record { kind = c.kind; rel = c.rel; operand = c.operand } };
+
+    ghost invariant = { λ c. IsTrue (is_sound c.kind c.rel c.operand) };
+}
+
+/// Whether two values in this order stand so.
+fn holds(rel: Rel, order: Ordering) -> bool
+    ensures { result ≡ holds_at rel order }
+{
+    match rel {
+        Rel::Equal => order.is_eq(),
+        Rel::Less => order.is_lt(),
+        Rel::LessEqual => order.is_le(),
+        Rel::Greater => order.is_gt(),
+        Rel::GreaterEqual => order.is_ge(),
+    }
+}
+
+/// Whether two values are of this kind and stand so.
+pub(crate) fn relates(kind: OpKind, rel: Rel, left: &Json, right: &Json) -> bool
+    ensures { result ≡ related kind rel left.now right.now }
+{
+    match (kind, left, right) {
+        (OpKind::Text, Json::Str(left), Json::Str(right)) => {
+            holds(rel, left.as_bytes().cmp(right.as_bytes()))
+        }
+        (OpKind::Number, Json::Int(left), Json::Int(right)) => holds(rel, left.cmp(right)),
+        (OpKind::Truth, Json::Bool(left), Json::Bool(right)) => *left == *right,
+        _ => false,
+    }
+}

@@ -1,0 +1,97 @@
+ghost use Rattle.std.specs.Prelude.{◌≡◌, map, option_copied};
+ghost use Rattle.choice_rules.specs.Evaluating.{is_null as null_at, is_numeric as numeric_at, is_string as string_at, is_boolean as boolean_at, is_text_of, operand_in, compared, asked, tested, all_hold, some_holds, matches as matched, matches_in};
+
+use crate::comparison::{Comparison, Operand, relates};
+use crate::failure::PathFailure;
+use crate::rule::{Op, Rule};
+use asl_paths::Path;
+use unum_json::Json;
+
+/// What stands on the right of a comparison.
+fn find_operand<'a>(operand: &'a Operand, value: &'a Json) -> Option<&'a Json>
+    ensures { option_copied result ≡ operand_in value.now operand.now }
+{
+    match operand {
+        Operand::Constant(constant) => Some(constant),
+        Operand::Found(path) => path.get(value),
+    }
+}
+
+/// Whether a comparison holds of what the variable found.
+fn compare(comparison: &Comparison, value: &Json, found: &Json) -> Result<bool, PathFailure>
+    ensures { result ≡ compared comparison.now found.now (operand_in value.now comparison.now.operand) }
+{
+    match find_operand(&comparison.operand, value) {
+        Some(operand) => Ok(relates(comparison.kind, comparison.rel, found, operand)),
+        None => Err(PathFailure),
+    }
+}
+
+/// What an operator answers for what the variable found.
+fn ask(op: &Op, value: &Json, found: &Json) -> Result<bool, PathFailure>
+    ensures { result ≡ asked op.now value.now found.now }
+{
+    match op {
+        Op::Compare(comparison) => compare(comparison, value, found),
+        Op::Matches(pattern) => match found {
+            Json::Str(text) => Ok(pattern.matches(text.as_str())),
+            _ => Ok(false),
+        },
+        Op::IsNull(flag) => Ok(matches!(found, Json::Null) == *flag),
+        Op::IsPresent(flag) => Ok(*flag),
+        Op::IsNumeric(flag) => Ok(matches!(found, Json::Int(_)) == *flag),
+        Op::IsString(flag) => Ok(matches!(found, Json::Str(_)) == *flag),
+        Op::IsBoolean(flag) => Ok(matches!(found, Json::Bool(_)) == *flag),
+    }
+}
+
+/// What an operator answers for the value, or the missing value, of a variable.
+fn test(op: &Op, value: &Json, found: Option<&Json>) -> Result<bool, PathFailure>
+    ensures { result ≡ tested op.now value.now (option_copied found.entry) }
+{
+    match (op, found) {
+        (_, Some(found)) => ask(op, value, found),
+        (Op::IsPresent(flag), None) => Ok(!*flag),
+        _ => Err(PathFailure),
+    }
+}
+
+/// Whether a rule matches a value.
+///
+/// It fails where the evaluation meets a path that finds nothing. "And" is evaluated from the left up to the first
+/// rule that does not match, and "or" up to the first that does.
+#[cycle(matches)]
+pub fn matches(rule: &Rule, value: &Json) -> Result<bool, PathFailure>
+    ensures { result ≡ matched rule.now value.now }
+{
+    match rule {
+        Rule::Test { variable, op } => test(op, value, variable.get(value)),
+        Rule::And(rules) => all_match(rules.as_slice(), value),
+        Rule::Or(rules) => some_matches(rules.as_slice(), value),
+        Rule::Not(rule) => Ok(!matches(rule.get(), value)?),
+    }
+}
+
+#[cycle(matches)]
+fn all_match(rules: &[Rule], value: &Json) -> Result<bool, PathFailure>
+    ensures { result ≡ all_hold (map (matches_in value.now) rules.now) }
+{
+    for rule in rules {
+        if !matches(rule, value)? {
+            return Ok(false);
+        }
+    }
+    Ok(true)
+}
+
+#[cycle(matches)]
+fn some_matches(rules: &[Rule], value: &Json) -> Result<bool, PathFailure>
+    ensures { result ≡ some_holds (map (matches_in value.now) rules.now) }
+{
+    for rule in rules {
+        if matches(rule, value)? {
+            return Ok(true);
+        }
+    }
+    Ok(false)
+}

@@ -1,0 +1,19 @@
+//! Rules that choose by a value: comparisons, facts and patterns of texts, joined by "and", "or" and "not".
+#![tactic(auto)]
+
+mod choosing;
+mod comparison;
+mod evaluation;
+mod failure;
+mod matching;
+mod pattern;
+mod rule;
+mod several;
+
+pub use choosing::{HasRule, choose, first_match};
+pub use comparison::{Comparison, OpKind, Operand, Rel};
+pub use evaluation::matches;
+pub use failure::PathFailure;
+pub use pattern::{Pattern, Piece};
+pub use rule::{Op, Rule};
+pub use several::NonEmpty;

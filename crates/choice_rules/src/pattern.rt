@@ -1,0 +1,45 @@
+ghost use Rattle.std.specs.Prelude.{◌≡◌};
+
+use std::marker::Model;
+
+/// One piece of a pattern.
+#[derive(Clone, Copy, Debug, PartialEq, Eq)]
+pub enum Piece {
+    /// This character.
+    Literal(char),
+    /// Any run of characters.
+    Star,
+}
+
+/// A list of pieces, which a text is to match from its start to its end.
+#[derive(Debug, Drop)]
+pub struct Pattern {
+    pieces: Vec<Piece>,
+}
+
+impl Model for Pattern {
+    ghost use Rattle.std.specs.Prelude.{List};
+    ghost use Rattle.std.specs.Coded.{coded_list};
+    ghost use Rattle.choice_rules.specs.declared.pattern.Piece.{Piece};
+    ghost use Rattle.choice_rules.specs.contracts.pattern.Piece as one;
+
+    ghost Value = { List Piece };
+
+    ghost coded = { coded_list one.the_row.coded };
+
+    ghost view = { λ p. p.pieces.items };
+}
+
+impl Pattern {
+    pub fn from_pieces(pieces: Vec<Piece>) -> Pattern
+        ensures { result ≡ pieces.items }
+    {
+        Pattern { pieces }
+    }
+
+    pub fn pieces(&self) -> &[Piece]
+        ensures { result.now ≡ self.now }
+    {
+        self.pieces.as_slice()
+    }
+}
