@@ -2,3 +2,4 @@ pub mod Characters
 pub mod Turns
 pub mod Searches
 pub mod Tests
+pub mod PatternReading

@@ -2,5 +2,6 @@ pub mod Compared
 pub mod Comparing
 pub mod Evaluating
 pub mod Matching
+pub mod Patterns
 pub mod Searching
 pub mod formers

@@ -48,3 +48,13 @@ piece_text (Literal c) = if (c == 42) || (c == 92) then codes "\\" ++ encode_utf
 
 abbrev pub pattern_text : List Piece → List ℕ
 pattern_text = flat_map piece_text
+
+-- the pieces that were read, and then those that are left
+abbrev pub after : List Piece → Option (List Piece) → Option (List Piece)
+after made = option_map (λ pieces. made ++ pieces)
+
+-- a character was read: whatever follows it, the whole stays the same
+abbrev pub ReadsOne : Result Bool PatternError → List Piece → Bool → ℕ → List Piece → Type 0
+ReadsOne (Ok next) old escaped c new = (cs : List ℕ) → after old (pieces_of escaped (c ∷ cs)) ≡ after new (pieces_of next cs)
+ReadsOne (Err LoneBackslash) old escaped c new = ⊥
+ReadsOne (Err NoMemory) old escaped c new = Unit {0}

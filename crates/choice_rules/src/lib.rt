@@ -3,17 +3,21 @@
 
 mod choosing;
 mod comparison;
+mod copying;
 mod evaluation;
 mod failure;
 mod matching;
 mod pattern;
+mod reading;
 mod rule;
 mod several;
 
 pub use choosing::{HasRule, choose, first_match};
 pub use comparison::{Comparison, OpKind, Operand, Rel};
+pub use copying::copy_rule;
 pub use evaluation::matches;
 pub use failure::PathFailure;
 pub use pattern::{Pattern, Piece};
+pub use reading::PatternError;
 pub use rule::{Op, Rule};
 pub use several::NonEmpty;

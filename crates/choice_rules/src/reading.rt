@@ -1,6 +1,6 @@
 ghost use Rattle.std.specs.Prelude.{◌≡◌, ◌++◌, List, Err, IfOk, OnOk, string_bytes};
 ghost use Rattle.choice_rules.specs.declared.pattern.Piece.{Piece};
-ghost use Rattle.choice_rules.specs.Patterns.{Spells, pattern_of, piece_text, pattern_text, Reads};
+ghost use Rattle.choice_rules.specs.Patterns.{Spells, pattern_of, piece_text, pattern_text, Reads, ReadsOne};
 
 use crate::matching::split_first;
 use crate::pattern::{Pattern, Piece};
@@ -25,6 +25,25 @@ impl<T: Drop> From<AllocFailed<T>> for PatternError {
     fn from(_refused: AllocFailed<T>) -> PatternError {
         PatternError::NoMemory
     }
+}
+
+/// Adds the piece that a character is, and says whether the next one is to be literal.
+fn read_one(pieces: &mut Vec<Piece>, escaped: bool, first: char) -> Result<bool, PatternError>
+    ensures { ReadsOne result pieces.old.items escaped first pieces.new.items }
+{
+    if escaped {
+        pieces.push(Piece::Literal(first))?;
+        return Ok(false);
+    }
+    if first == '*' {
+        pieces.push(Piece::Star)?;
+        return Ok(false);
+    }
+    if first == '\\' {
+        return Ok(true);
+    }
+    pieces.push(Piece::Literal(first))?;
+    Ok(false)
 }
 
 /// Adds the canonical text of a piece.
@@ -68,17 +87,8 @@ impl Pattern {
         let mut escaped = false;
         let mut left = text;
         while let Some((first, rest)) = split_first(left) {
+            escaped = read_one(&mut pieces, escaped, first)?;
             left = rest;
-            if escaped {
-                escaped = false;
-                pieces.push(Piece::Literal(first))?;
-                continue;
-            }
-            match first {
-                '\\' => escaped = true,
-                '*' => pieces.push(Piece::Star)?,
-                _ => pieces.push(Piece::Literal(first))?,
-            }
         }
         if escaped {
             return Err(PatternError::LoneBackslash);
