@@ -1,5 +1,5 @@
 pub mod Characters
 pub mod Turns
 pub mod Searches
-pub mod Tests
+pub mod MatchTest
 pub mod PatternReading

@@ -23,10 +23,6 @@ after_more made piece (Some pieces) = ap Some (sym (append_assoc made (piece ∷
 after_all : (made : Pieces) → after made (Some []) ≡ Some made
 after_all made = ap Some (append-nil made)
 
-
-
-
-
 alone_literal : (c : ℕ) (cs : List ℕ) → c ≢ 42 → c ≢ 92 → pieces_of false (c ∷ cs) ≡ with_piece (Literal c) (pieces_of false cs)
 alone_literal c cs star back = rw (ne_test c 42 star, ne_test c 92 back) refl
 
@@ -74,6 +70,7 @@ sound_from false (c ∷ cs) ps e = by_star (c == 42) refl e (sound_from false cs
     by_back false is star f plain back =
         let t = taken (Literal c) (pieces_of false cs) ps f in
         subst (λ p. SpellsPieces p (c ∷ cs)) t.2 (c ∷ [], cs, refl, inl (eqb-false c 42 star, eqb-false c 92 is, refl), plain t.0 t.1)
+
     by_star : (b : Bool) → (c == 42) ≡ b → (if b then with_piece Star (pieces_of false cs) else (if c == 92 then pieces_of true cs else with_piece (Literal c) (pieces_of false cs))) ≡ Some ps
         → ((rest : Pieces) → pieces_of false cs ≡ Some rest → SpellsPieces rest cs) → ((rest : Pieces) → pieces_of true cs ≡ Some rest → SpellsPieces rest (92 ∷ cs)) → SpellsPieces ps (c ∷ cs)
     by_star true is f plain back =

@@ -119,6 +119,7 @@ star_right p cs (Some star) a = record {
     here : (p : Pieces) (cs : List ℕ) → Matches p cs ⊎ Later p cs → Matches (Star ∷ p) cs
     here p cs (inl m) = star_now p cs m
     here p cs (inr l) = star_later p cs l
+
     there : Matches (Star ∷ p) cs ⊎ Later star.0 star.1 → Matches p cs ⊎ Later p cs
     there (inl m) = star_split p cs m
     there (inr l) = star_split p cs (later_star star.0 star.1 p cs a.0 a.1 a.2 l)
@@ -147,6 +148,7 @@ literal_right c p cs (Some star) a = record {
     to : Matches p cs ⊎ Later star.0 star.1 → Matches (Literal c ∷ p) (c ∷ cs) ⊎ Later star.0 star.1
     to (inl m) = inl ((past_one c p cs).0 m)
     to (inr l) = inr l
+
     from : Matches (Literal c ∷ p) (c ∷ cs) ⊎ Later star.0 star.1 → Matches p cs ⊎ Later star.0 star.1
     from (inl m) = inl ((past_one c p cs).1 m)
     from (inr l) = inr l
@@ -194,11 +196,14 @@ abbrev pub GoesOn : Pieces → List ℕ → Standing → Standing → Type 0
 GoesOn p cs s t = IsSearch p cs t × (work (length p) t < work (length p) s)
 
 search_on : (p : Pieces) (cs : List ℕ) (s t : Standing) → IsSearch p cs s → Follows s t → GoesOn p cs s t
-search_on p cs s t is next = (record {
-  same = ((λ g. is.same.0 (next.same.0 g)), (λ m. next.same.1 (is.same.1 m)));
-  aligned = next.aligned;
-  within = next.within (length p) is.within;
-}, next.nearer (length p) is.within)
+search_on p cs s t is next = (
+  record {
+    same = ((λ g. is.same.0 (next.same.0 g)), (λ m. next.same.1 (is.same.1 m)));
+    aligned = next.aligned;
+    within = next.within (length p) is.within;
+  },
+  next.nearer (length p) is.within,
+)
 
 pub search_goes : (p : Pieces) (cs : List ℕ) (s : Standing) (n : Search) → IsSearch p cs s → Goes (More n) (step s) → GoesOn p cs s (standing n)
 search_goes p cs s n is g = by (step s) (step_right s is.aligned) g

@@ -1,4 +1,4 @@
--- What a rule answers for a value. A path that finds nothing is a failure.
+-- What a rule answers for a value (Amazon States Language, "Choice State"). A path that finds nothing is a failure.
 use Rattle.std.specs.Prelude.{ℕ, ◌+◌, Bool, true, false, not, List, [], ◌∷◌, Option, Some, None, Result, Ok, Err}
 use Rattle.std.specs.Bool.{beq}
 use Rattle.std.specs.Option.{is_some}
@@ -22,7 +22,7 @@ abbrev pub Answer : Type 0
 Answer = Result Bool PathFailure
 
 abbrev pub failure : PathFailure
-failure = record { }
+failure = record {}
 
 abbrev pub is_null : Json-F Json → Bool
 is_null Json-F.Null = true

@@ -7,10 +7,11 @@ use crate::failure::PathFailure;
 use crate::rule::Rule;
 use unum_json::Json;
 
-/// What stands in a list of rules.
+/// What stands in a list from which is chosen: a rule, or something that has one.
 pub trait HasRule {
     ghost rule_of: { Self → Rule };
 
+    /// The rule of it.
     fn rule(&self) -> &Rule
         ensures { result.now ≡ rule_of self.now };
 }

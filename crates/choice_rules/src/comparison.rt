@@ -1,4 +1,6 @@
 ghost use Rattle.std.specs.Prelude.{◌≡◌};
+ghost use Rattle.choice_rules.specs.Compared.{is_of_kind as of_kind, is_sound as sound};
+ghost use Rattle.unum_json.specs.declared.value.Json.{out-Json};
 ghost use Rattle.choice_rules.specs.Comparing.{holds as holds_at, relates as related};
 
 use asl_paths::Path;
@@ -20,10 +22,15 @@ pub enum OpKind {
 /// How the variable's value is to stand to the operand.
 #[derive(Clone, Copy, Debug, PartialEq, Eq)]
 pub enum Rel {
+    /// It is equal.
     Equal,
+    /// It is less.
     Less,
+    /// It is less or equal.
     LessEqual,
+    /// It is greater.
     Greater,
+    /// It is greater or equal.
     GreaterEqual,
 }
 
@@ -41,15 +48,17 @@ pub enum Operand {
 /// Truth values are compared by `Equal` alone, and an operand that is a constant is of the comparison's kind.
 #[derive(Drop)]
 pub struct Comparison {
+    /// The type that both values are to have.
     pub kind: OpKind,
+    /// How the variable's value is to stand to the operand.
     pub rel: Rel,
+    /// What it is compared with.
     pub operand: Operand,
 }
 
 impl Model for Comparison {
     ghost use Rattle.std.specs.Prelude.{IsTrue};
     ghost use Rattle.choice_rules.specs.Compared.{Compared, is_sound};
-
     ghost use Rattle.std.specs.Coded.{codes};
     ghost use Rattle.choice_rules.specs.contracts.comparison.Operand as right;
 
@@ -60,6 +69,31 @@ impl Model for Comparison {
     ghost view = { λ c. record { kind = c.kind; rel = c.rel; operand = c.operand } };
 
     ghost invariant = { λ c. IsTrue (is_sound c.kind c.rel c.operand) };
+}
+
+/// Whether a value is a text, a number or a truth value, as the kind says.
+fn is_of_kind(kind: OpKind, value: &Json) -> bool
+    ensures { result ≡ of_kind kind (out-Json value.now) }
+{
+    match (kind, value) {
+        (OpKind::Text, Json::Str(_)) => true,
+        (OpKind::Number, Json::Int(_)) => true,
+        (OpKind::Truth, Json::Bool(_)) => true,
+        _ => false,
+    }
+}
+
+/// Whether there may be a comparison of this kind by this relation with this operand.
+pub fn is_sound(kind: OpKind, rel: Rel, operand: &Operand) -> bool
+    ensures { result ≡ sound kind rel operand.now }
+{
+    if kind == OpKind::Truth && rel != Rel::Equal {
+        return false;
+    }
+    match operand {
+        Operand::Constant(value) => is_of_kind(kind, value),
+        Operand::Found(_) => true,
+    }
 }
 
 /// Whether two values in this order stand so.

@@ -1,4 +1,8 @@
-//! Rules that choose by a value: comparisons, facts and patterns of texts, joined by "and", "or" and "not".
+//! Rules that choose by a value (Amazon States Language, "Choice State"): comparisons, facts and patterns of texts, joined by
+//! "and", "or" and "not".
+//!
+//! Contracts see a [`Rule`] as the plain tree of its variants: [`NonEmpty`] is a list, a [`Pattern`] the list of its pieces, and
+//! a [`Comparison`] the record of its fields.
 #![tactic(auto)]
 
 mod choosing;
@@ -13,7 +17,7 @@ mod rule;
 mod several;
 
 pub use choosing::{HasRule, choose, first_match};
-pub use comparison::{Comparison, OpKind, Operand, Rel};
+pub use comparison::{Comparison, OpKind, Operand, Rel, is_sound};
 pub use copying::copy_rule;
 pub use evaluation::matches;
 pub use failure::PathFailure;
@@ -21,3 +25,6 @@ pub use pattern::{Pattern, Piece};
 pub use reading::PatternError;
 pub use rule::{Op, Rule};
 pub use several::NonEmpty;
+
+#[cfg(test)]
+mod tests;

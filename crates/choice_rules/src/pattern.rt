@@ -31,12 +31,14 @@ impl Model for Pattern {
 }
 
 impl Pattern {
+    /// The pattern of these pieces.
     pub fn from_pieces(pieces: Vec<Piece>) -> Pattern
         ensures { result ≡ pieces.items }
     {
         Pattern { pieces }
     }
 
+    /// The pieces, in order.
     pub fn pieces(&self) -> &[Piece]
         ensures { result.now ≡ self.now }
     {

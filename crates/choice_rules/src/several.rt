@@ -22,6 +22,7 @@ impl<T> Model for NonEmpty<T> {
 }
 
 impl<T> NonEmpty<T> {
+    /// The elements of a `Vec`, which is taken over and is not empty.
     pub fn from_vec(items: Vec<T>) -> NonEmpty<T>
         requires { 0 < vec_len items }
         ensures { result ≡ items.items }
@@ -29,6 +30,7 @@ impl<T> NonEmpty<T> {
         NonEmpty { items }
     }
 
+    /// The elements, in order.
     pub fn as_slice(&self) -> &[T]
         ensures value { result.now ≡ self.now }
         ensures filled { 0 < length self.now }

@@ -1,7 +1,7 @@
 use Rattle.std.specs.Str.{chars}
 use Rattle.choice_rules.specs.Searching.{standing}
 use Rattle.choice_rules.proofs.Searches.{search_ends, search_goes}
-use Rattle.choice_rules.proofs.Tests.{is_test}
+use Rattle.choice_rules.proofs.MatchTest.{is_test}
 use Rattle.choice_rules.proofs.pattern.Pattern.matches.Goals as goal
 
 pub loop-answer-preserved : goal.loop-answer-preserved

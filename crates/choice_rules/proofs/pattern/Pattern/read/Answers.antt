@@ -11,9 +11,9 @@ returns-then-escaped-clause-lone c = λ _ pieces h. spells_none pieces (chars c.
 pub returns-clause-spelled : goal.returns-clause-spelled
 returns-clause-spelled c = sound (chars c.args.text.now) c.from_pieces.result
     (read_all (pieces_of false (chars c.args.text.now)) c.loop-first.pieces.items c.loop-first.escaped (chars c.loop-first.left.now) c.loop-first.invariant.1 c.in_default.ensures.parts c.if-escaped.false
-      ∙ ap Some (sym c.from_pieces.ensures))
+    ∙ ap Some (sym c.from_pieces.ensures))
 
 pub returns-clause-same : goal.returns-clause-same
 returns-clause-same c = λ pieces h. the_same pieces c.from_pieces.result (chars c.args.text.now) h
     (read_all (pieces_of false (chars c.args.text.now)) c.loop-first.pieces.items c.loop-first.escaped (chars c.loop-first.left.now) c.loop-first.invariant.1 c.in_default.ensures.parts c.if-escaped.false
-      ∙ ap Some (sym c.from_pieces.ensures))
+    ∙ ap Some (sym c.from_pieces.ensures))
