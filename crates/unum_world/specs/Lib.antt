@@ -1,0 +1,13 @@
+pub mod Answers
+pub mod Chained
+pub mod Codes
+pub mod Journals
+pub mod Latest
+pub mod Plain
+pub mod Plans
+pub mod Program
+pub mod Replies
+pub mod Seen
+pub mod Sessions
+pub mod Stretch
+pub mod Worlds

@@ -1,0 +1,80 @@
+ghost use Rattle.std.specs.Prelude.{◌≡◌, [], IfOk};
+ghost use Rattle.unum_world.specs.Seen.{Fits, IsChosen};
+ghost use Rattle.unum_world.specs.Answers.{Settles};
+
+use crate::opening::Opening;
+use crate::refusal::ApplyError;
+use crate::settled::Settled;
+use crate::world::World;
+use std::alloc::Global;
+use std::marker::Model;
+use unum_json::NoMemory;
+
+/// A world whose events are all the chooser's. Callers see what they see of a world.
+#[derive(Drop)]
+pub struct Planned {
+    world: World,
+}
+
+impl Model for Planned {
+    ghost use Rattle.unum_world.specs.Seen.{Past, begun, IsChosen};
+    ghost use Rattle.unum_json.specs.contracts.value.Json as json;
+    ghost use Rattle.std.specs.Coded.{codes};
+
+    ghost Value = { Past };
+
+    ghost coded = { Prim.hlevel (codes, json.the_row.coded) };
+
+    ghost view = { λ p. p.world };
+
+    ghost invariant = { λ p. IsChosen p.world };
+}
+
+impl Planned {
+    /// A world that begins so, with room for `limit` events; as [`World::open`].
+    pub fn open(alloc: Global, opening: Opening, limit: u64) -> Result<Planned, NoMemory>
+        requires { Fits opening limit }
+        ensures { IfOk result (λ p. p ≡ record { opening = opening; limit = limit; history = [] }) }
+    {
+        let world = World::open(alloc, opening, limit)?;
+        Ok(Planned { world })
+    }
+
+    /// Makes the chooser's events until no event is enabled or the history is full. Where memory ran out, the events
+    /// made so far stand.
+    pub fn settle(&mut self, alloc: Global) -> Result<Settled, NoMemory>
+        ensures opening { self.new.opening ≡ self.old.opening }
+        ensures limit { self.new.limit ≡ self.old.limit }
+        ensures chosen { IsChosen self.new }
+        ensures settled { Settles result self.new }
+    {
+        settle(alloc, &mut self.world)
+    }
+
+    /// The world inside.
+    pub fn into_world(self) -> World
+        ensures world { result ≡ self }
+        ensures chosen { IsChosen result }
+    {
+        self.world
+    }
+}
+
+/// Makes the chooser's events until no event is enabled or the history is full.
+fn settle(alloc: Global, world: &mut World) -> Result<Settled, NoMemory>
+    requires { IsChosen world.old }
+    ensures opening { world.new.opening ≡ world.old.opening }
+    ensures limit { world.new.limit ≡ world.old.limit }
+    ensures chosen { IsChosen world.new }
+    ensures settled { Settles result world.new }
+{
+    while let Some(e) = world.choose(alloc)? {
+        match world.apply(alloc, e) {
+            Ok(()) => (),
+            Err(ApplyError::Spent { len: _ }) => return Ok(Settled::Spent),
+            Err(ApplyError::NoMemory) => return Err(NoMemory),
+            Err(ApplyError::NotEnabled { event: _ }) => unreachable!(),
+        }
+    }
+    Ok(Settled::Drained)
+}
