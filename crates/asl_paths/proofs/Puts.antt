@@ -48,6 +48,7 @@ cmp_same a b e = by (slice_cmp nat_cmp a b) refl
   where
     told : is_eq (slice_cmp nat_cmp a b) ≡ true
     told = is_eq-slice_cmp a b ∙ same_name a b e
+
     by : (o : Ordering) → slice_cmp nat_cmp a b ≡ o → o ≡ Equal
     by Less is = absurd (let f : false ≡ true = sym (ap is_eq is) ∙ told in cc)
     by Equal is = refl

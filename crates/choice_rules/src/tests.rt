@@ -6,243 +6,245 @@ use asl_paths::Path;
 use sqlite_items::Boxed;
 use std::alloc::Global;
 use std::test::Fail;
-use unum_json::{Json, copy, read, to_json};
+use unum_json::{Json, Text, copy, read, to_json};
 
 /// The value that the rules below are asked of.
 const VALUE: &str =
-    "{\"t\":\"b\",\"n\":5,\"m\":-3,\"yes\":true,\"no\":false,\"nil\":null,\"arr\":[1],\"obj\":{},\"u\":\"é\",\"e\":\"\"}";
+    r#"{"t":"b","n":5,"m":-3,"yes":true,"no":false,"nil":null,"arr":[1],"obj":{},"u":"é","e":""}"#;
 
-/// A variable, an operator, its operand, and whether the rule matches, or `None` where a path finds nothing.
-const TESTED: [(&str, &str, &str, Option<bool>); 74] = [
-    ("$.t", "StringEquals", "\"b\"", Some(true)),
-    ("$.t", "StringEquals", "\"c\"", Some(false)),
-    ("$.t", "StringLessThan", "\"b\"", Some(false)),
-    ("$.t", "StringLessThan", "\"c\"", Some(true)),
-    ("$.t", "StringLessThanEquals", "\"b\"", Some(true)),
-    ("$.t", "StringLessThanEquals", "\"c\"", Some(true)),
-    ("$.t", "StringGreaterThan", "\"b\"", Some(false)),
-    ("$.t", "StringGreaterThan", "\"c\"", Some(false)),
-    ("$.t", "StringGreaterThanEquals", "\"b\"", Some(true)),
-    ("$.t", "StringGreaterThanEquals", "\"c\"", Some(false)),
-    ("$.u", "StringGreaterThan", "\"z\"", Some(true)),
-    ("$.u", "StringLessThan", "\"𝄞\"", Some(true)),
-    ("$.u", "StringEquals", "\"é\"", Some(true)),
-    ("$.e", "StringLessThan", "\"a\"", Some(true)),
-    ("$.t", "StringLessThan", "\"ba\"", Some(true)),
-    ("$.n", "NumericEquals", "4", Some(false)),
-    ("$.n", "NumericEquals", "5", Some(true)),
-    ("$.n", "NumericLessThan", "4", Some(false)),
-    ("$.n", "NumericLessThan", "5", Some(false)),
-    ("$.n", "NumericLessThanEquals", "4", Some(false)),
-    ("$.n", "NumericLessThanEquals", "5", Some(true)),
-    ("$.n", "NumericGreaterThan", "4", Some(true)),
-    ("$.n", "NumericGreaterThan", "5", Some(false)),
-    ("$.n", "NumericGreaterThanEquals", "4", Some(true)),
-    ("$.n", "NumericGreaterThanEquals", "5", Some(true)),
-    ("$.m", "NumericLessThan", "-2", Some(true)),
-    ("$.m", "NumericGreaterThan", "-4", Some(true)),
-    ("$.yes", "BooleanEquals", "true", Some(true)),
-    ("$.yes", "BooleanEquals", "false", Some(false)),
-    ("$.no", "BooleanEquals", "false", Some(true)),
-    ("$.no", "BooleanEquals", "true", Some(false)),
-    ("$.t", "NumericEquals", "1", Some(false)),
-    ("$.n", "StringEquals", "\"5\"", Some(false)),
-    ("$.t", "NumericGreaterThan", "1", Some(false)),
-    ("$.n", "StringLessThanEquals", "\"z\"", Some(false)),
-    ("$.nil", "BooleanEquals", "false", Some(false)),
-    ("$.t", "BooleanEquals", "true", Some(false)),
-    ("$.arr", "NumericEquals", "1", Some(false)),
-    ("$.n", "NumericGreaterThanPath", "\"$.m\"", Some(true)),
-    ("$.n", "NumericLessThanPath", "\"$.m\"", Some(false)),
-    ("$.t", "StringEqualsPath", "\"$.t\"", Some(true)),
-    ("$.t", "StringEqualsPath", "\"$.n\"", Some(false)),
-    ("$.yes", "BooleanEqualsPath", "\"$.no\"", Some(false)),
-    ("$.n", "NumericEqualsPath", "\"$.q\"", None),
-    ("$.q", "NumericEqualsPath", "\"$.n\"", None),
-    (
-        "$.arr[0]",
-        "NumericLessThanEqualsPath",
-        "\"$.n\"",
-        Some(true),
-    ),
-    ("$.arr[1]", "NumericEquals", "1", None),
-    ("$.nil", "IsNull", "true", Some(true)),
-    ("$.obj", "IsNull", "true", Some(false)),
-    ("$.arr", "IsNull", "false", Some(true)),
-    ("$.nil", "IsNull", "false", Some(false)),
-    ("$.n", "IsNumeric", "true", Some(true)),
-    ("$.obj", "IsNumeric", "true", Some(false)),
-    ("$.arr", "IsNumeric", "false", Some(true)),
-    ("$.n", "IsNumeric", "false", Some(false)),
-    ("$.t", "IsString", "true", Some(true)),
-    ("$.obj", "IsString", "true", Some(false)),
-    ("$.arr", "IsString", "false", Some(true)),
-    ("$.t", "IsString", "false", Some(false)),
-    ("$.yes", "IsBoolean", "true", Some(true)),
-    ("$.obj", "IsBoolean", "true", Some(false)),
-    ("$.arr", "IsBoolean", "false", Some(true)),
-    ("$.yes", "IsBoolean", "false", Some(false)),
-    ("$.nil", "IsPresent", "true", Some(true)),
-    ("$.nil", "IsPresent", "false", Some(false)),
-    ("$.q", "IsPresent", "true", Some(false)),
-    ("$.q", "IsPresent", "false", Some(true)),
-    ("$.q", "IsNull", "true", None),
-    ("$.q", "IsString", "false", None),
-    ("$.t", "StringMatches", "\"b*\"", Some(true)),
-    ("$.t", "StringMatches", "\"a\"", Some(false)),
-    ("$.n", "StringMatches", "\"*\"", Some(false)),
-    ("$.q", "StringMatches", "\"*\"", None),
-    ("$.e", "StringMatches", "\"*\"", Some(true)),
-];
+/// A variable, an operator, its operand, and what the rule answers.
+const TESTED: &str = r#"$.t | StringEquals | "b" | true
+$.t | StringEquals | "c" | false
+$.t | StringLessThan | "b" | false
+$.t | StringLessThan | "c" | true
+$.t | StringLessThanEquals | "b" | true
+$.t | StringLessThanEquals | "c" | true
+$.t | StringGreaterThan | "b" | false
+$.t | StringGreaterThan | "c" | false
+$.t | StringGreaterThanEquals | "b" | true
+$.t | StringGreaterThanEquals | "c" | false
+$.u | StringGreaterThan | "z" | true
+$.u | StringLessThan | "𝄞" | true
+$.u | StringEquals | "é" | true
+$.e | StringLessThan | "a" | true
+$.t | StringLessThan | "ba" | true
+$.n | NumericEquals | 4 | false
+$.n | NumericEquals | 5 | true
+$.n | NumericLessThan | 4 | false
+$.n | NumericLessThan | 5 | false
+$.n | NumericLessThanEquals | 4 | false
+$.n | NumericLessThanEquals | 5 | true
+$.n | NumericGreaterThan | 4 | true
+$.n | NumericGreaterThan | 5 | false
+$.n | NumericGreaterThanEquals | 4 | true
+$.n | NumericGreaterThanEquals | 5 | true
+$.m | NumericLessThan | -2 | true
+$.m | NumericGreaterThan | -4 | true
+$.yes | BooleanEquals | true | true
+$.yes | BooleanEquals | false | false
+$.no | BooleanEquals | false | true
+$.no | BooleanEquals | true | false
+$.t | NumericEquals | 1 | false
+$.n | StringEquals | "5" | false
+$.t | NumericGreaterThan | 1 | false
+$.n | StringLessThanEquals | "z" | false
+$.nil | BooleanEquals | false | false
+$.t | BooleanEquals | true | false
+$.arr | NumericEquals | 1 | false
+$.n | NumericGreaterThanPath | "$.m" | true
+$.n | NumericLessThanPath | "$.m" | false
+$.t | StringEqualsPath | "$.t" | true
+$.t | StringEqualsPath | "$.n" | false
+$.yes | BooleanEqualsPath | "$.no" | false
+$.n | NumericEqualsPath | "$.q" | fails
+$.q | NumericEqualsPath | "$.n" | fails
+$.arr[0] | NumericLessThanEqualsPath | "$.n" | true
+$.arr[1] | NumericEquals | 1 | fails
+$.nil | IsNull | true | true
+$.obj | IsNull | true | false
+$.arr | IsNull | false | true
+$.nil | IsNull | false | false
+$.n | IsNumeric | true | true
+$.obj | IsNumeric | true | false
+$.arr | IsNumeric | false | true
+$.n | IsNumeric | false | false
+$.t | IsString | true | true
+$.obj | IsString | true | false
+$.arr | IsString | false | true
+$.t | IsString | false | false
+$.yes | IsBoolean | true | true
+$.obj | IsBoolean | true | false
+$.arr | IsBoolean | false | true
+$.yes | IsBoolean | false | false
+$.nil | IsPresent | true | true
+$.nil | IsPresent | false | false
+$.q | IsPresent | true | false
+$.q | IsPresent | false | true
+$.q | IsNull | true | fails
+$.q | IsString | false | fails
+$.t | StringMatches | "b*" | true
+$.t | StringMatches | "a" | false
+$.n | StringMatches | "*" | false
+$.q | StringMatches | "*" | fails
+$.e | StringMatches | "*" | true"#;
 
 /// Rules by letters, and what "and" and "or" of them answer.
-const JOINED: [(&str, Option<bool>, Option<bool>); 17] = [
-    ("T", Some(true), Some(true)),
-    ("F", Some(false), Some(false)),
-    ("X", None, None),
-    ("TT", Some(true), Some(true)),
-    ("TF", Some(false), Some(true)),
-    ("FT", Some(false), Some(true)),
-    ("FF", Some(false), Some(false)),
-    ("TX", None, Some(true)),
-    ("FX", Some(false), None),
-    ("XT", None, None),
-    ("XF", None, None),
-    ("TTF", Some(false), Some(true)),
-    ("TFX", Some(false), Some(true)),
-    ("FFT", Some(false), Some(true)),
-    ("FTX", Some(false), Some(true)),
-    ("FXT", Some(false), None),
-    ("TXF", None, Some(true)),
-];
+const JOINED: &str = r#"T | true | true
+F | false | false
+X | fails | fails
+TT | true | true
+TF | false | true
+FT | false | true
+FF | false | false
+TX | fails | true
+FX | false | fails
+XT | fails | fails
+XF | fails | fails
+TTF | false | true
+TFX | false | true
+FFT | false | true
+FTX | false | true
+FXT | false | fails
+TXF | fails | true"#;
 
-/// Rules by letters, and which of them is chosen.
-const CHOSEN: [(&str, Result<Option<u32>, PathFailure>); 12] = [
-    ("", Ok(None)),
-    ("T", Ok(Some(0))),
-    ("F", Ok(None)),
-    ("X", Err(PathFailure)),
-    ("FT", Ok(Some(1))),
-    ("TT", Ok(Some(0))),
-    ("FFT", Ok(Some(2))),
-    ("XT", Err(PathFailure)),
-    ("FXT", Err(PathFailure)),
-    ("TX", Ok(Some(0))),
-    ("FTX", Ok(Some(1))),
-    ("FF", Ok(None)),
-];
+/// Rules by letters, and the index of the one that is chosen.
+const CHOSEN: &str = r#" | none
+T | 0
+F | none
+X | fails
+FT | 1
+TT | 0
+FFT | 2
+XT | fails
+FXT | fails
+TX | 0
+FTX | 1
+FF | none"#;
 
 /// A pattern's text, a text, and whether it matches.
-const PATTERNS: [(&str, &str, bool); 30] = [
-    ("a*c", "abbc", true),
-    ("a*c", "ac", true),
-    ("a*c", "ab", false),
-    ("a\\*c", "a*c", true),
-    ("a\\*c", "abc", false),
-    ("a\\*c", "ac", false),
-    ("", "", true),
-    ("", "a", false),
-    ("a", "", false),
-    ("*", "", true),
-    ("*", "anything", true),
-    ("**", "x", true),
-    ("a*", "a", true),
-    ("*a", "ba", true),
-    ("*a", "ab", false),
-    ("a*b*c", "aXbYc", true),
-    ("a*b*c", "acb", false),
-    ("*ab", "aab", true),
-    ("*abab", "ababab", true),
-    ("a*a", "a", false),
-    ("a*a", "aa", true),
-    ("\\\\", "\\", true),
-    ("\\n", "n", true),
-    ("é*", "éa", true),
-    ("*é", "aé", true),
-    ("a*b", "a€b", true),
-    ("*aab*", "aaab", true),
-    ("a*ba*c", "abbac", true),
-    ("*.log", "x.log", true),
-    ("*.log", "x.logs", false),
-];
+const PATTERNS: &str = r#"a*c | abbc | true
+a*c | ac | true
+a*c | ab | false
+a\*c | a*c | true
+a\*c | abc | false
+a\*c | ac | false
+ |  | true
+ | a | false
+a |  | false
+* |  | true
+* | anything | true
+** | x | true
+a* | a | true
+*a | ba | true
+*a | ab | false
+a*b*c | aXbYc | true
+a*b*c | acb | false
+*ab | aab | true
+*abab | ababab | true
+a*a | a | false
+a*a | aa | true
+\\ | \ | true
+\n | n | true
+é* | éa | true
+*é | aé | true
+a*b | a€b | true
+*aab* | aaab | true
+a*ba*c | abbac | true
+*.log | x.log | true
+*.log | x.logs | false"#;
 
-/// A pattern's text, and its canonical text, or `None` where it is none.
-const SPELLED: [(&str, Option<&str>); 11] = [
-    ("", Some("")),
-    ("a*c", Some("a*c")),
-    ("a\\*c", Some("a\\*c")),
-    ("\\a\\b", Some("ab")),
-    ("\\\\", Some("\\\\")),
-    ("**", Some("**")),
-    ("\\\\\\*", Some("\\\\\\*")),
-    ("é\\é", Some("éé")),
-    ("\\", None),
-    ("a\\", None),
-    ("\\\\\\", None),
-];
+/// A pattern's text, and its canonical text, or `-` where it is none.
+const SPELLED: &str = r#" | 
+a*c | a*c
+a\*c | a\*c
+\a\b | ab
+\\ | \\
+** | **
+\\\* | \\\*
+é\é | éé
+\ | -
+a\ | -
+\\\ | -"#;
 
-/// The operators of comparisons. `Path` at the end of one makes its operand a path.
-const COMPARISONS: [(&str, OpKind, Rel); 11] = [
-    ("StringEquals", OpKind::Text, Rel::Equal),
-    ("StringLessThan", OpKind::Text, Rel::Less),
-    ("StringLessThanEquals", OpKind::Text, Rel::LessEqual),
-    ("StringGreaterThan", OpKind::Text, Rel::Greater),
-    ("StringGreaterThanEquals", OpKind::Text, Rel::GreaterEqual),
-    ("NumericEquals", OpKind::Number, Rel::Equal),
-    ("NumericLessThan", OpKind::Number, Rel::Less),
-    ("NumericLessThanEquals", OpKind::Number, Rel::LessEqual),
-    ("NumericGreaterThan", OpKind::Number, Rel::Greater),
-    (
-        "NumericGreaterThanEquals",
-        OpKind::Number,
-        Rel::GreaterEqual,
-    ),
-    ("BooleanEquals", OpKind::Truth, Rel::Equal),
-];
+/// The next cell of a row, and the rest of it.
+fn cell(row: &str) -> Result<(&str, &str), Fail> {
+    Ok(row.split_once(" | ").ok_or("a cell")?)
+}
 
 fn json(alloc: Global, text: &str) -> Result<Json, Fail> {
     Ok(to_json(alloc, &read(alloc, text.as_bytes())?)?)
 }
 
-/// The comparison by this operator, if there may be one with this operand.
-fn comparison(operator: &[u8], operand: Operand) -> Option<Op> {
-    for (name, kind, rel) in COMPARISONS {
-        if name.as_bytes() == operator && is_sound(kind, rel, &operand) {
-            return Some(Op::Compare(Comparison { kind, rel, operand }));
-        }
+/// What the name of a comparison says of its kind, and the rest of it.
+fn kind(operator: &[u8]) -> Option<(OpKind, &[u8])> {
+    if let Some(rest) = operator.strip_prefix(b"String".as_slice()) {
+        return Some((OpKind::Text, rest));
     }
-    None
+    if let Some(rest) = operator.strip_prefix(b"Numeric".as_slice()) {
+        return Some((OpKind::Number, rest));
+    }
+    let rest = operator.strip_prefix(b"Boolean".as_slice())?;
+    Some((OpKind::Truth, rest))
 }
 
-/// The question for a fact by this operator.
-fn fact(operator: &str, flag: bool) -> Option<Op> {
-    match operator {
-        "IsNull" => Some(Op::IsNull(flag)),
-        "IsPresent" => Some(Op::IsPresent(flag)),
-        "IsNumeric" => Some(Op::IsNumeric(flag)),
-        "IsString" => Some(Op::IsString(flag)),
-        "IsBoolean" => Some(Op::IsBoolean(flag)),
+fn rel(name: &[u8]) -> Option<Rel> {
+    match name {
+        b"Equals" => Some(Rel::Equal),
+        b"LessThan" => Some(Rel::Less),
+        b"LessThanEquals" => Some(Rel::LessEqual),
+        b"GreaterThan" => Some(Rel::Greater),
+        b"GreaterThanEquals" => Some(Rel::GreaterEqual),
         _ => None,
     }
 }
 
-fn op(alloc: Global, operator: &str, operand: &Json) -> Result<Op, Fail> {
+/// The comparison by this operator, if there may be one with this operand.
+fn comparison(operator: &[u8], operand: Operand) -> Option<Op> {
+    let (kind, rest) = kind(operator)?;
+    let rel = rel(rest)?;
+    if !is_sound(kind, rel, &operand) {
+        return None;
+    }
+    Some(Op::Compare(Comparison { kind, rel, operand }))
+}
+
+/// The question for a fact by this operator.
+fn fact(operator: &[u8], flag: bool) -> Option<Op> {
+    match operator {
+        b"IsNull" => Some(Op::IsNull(flag)),
+        b"IsPresent" => Some(Op::IsPresent(flag)),
+        b"IsNumeric" => Some(Op::IsNumeric(flag)),
+        b"IsString" => Some(Op::IsString(flag)),
+        b"IsBoolean" => Some(Op::IsBoolean(flag)),
+        _ => None,
+    }
+}
+
+/// The operator with a text, which is a pattern or a path where the operator's name says so.
+fn with_text(alloc: Global, operator: &[u8], text: &Text) -> Result<Option<Op>, Fail> {
+    if operator == b"StringMatches".as_slice() {
+        return Ok(Some(Op::Matches(Pattern::read(alloc, text.as_str())?)));
+    }
+    let Some(operator) = operator.strip_suffix(b"Path".as_slice()) else {
+        return Ok(None);
+    };
+    let path = Path::parse(alloc, text.as_bytes())?;
+    Ok(comparison(operator, Operand::Found(path)))
+}
+
+fn op(alloc: Global, operator: &[u8], operand: &Json) -> Result<Op, Fail> {
     if let Json::Bool(flag) = operand {
-        if let Some(fact) = fact(operator, *flag) {
-            return Ok(fact);
+        if let Some(op) = fact(operator, *flag) {
+            return Ok(op);
         }
     }
     if let Json::Str(text) = operand {
-        if operator == "StringMatches" {
-            return Ok(Op::Matches(Pattern::read(alloc, text.as_str())?));
-        }
-        if let Some(operator) = operator.as_bytes().strip_suffix(b"Path".as_slice()) {
-            let path = Path::parse(alloc, text.as_bytes())?;
-            return Ok(comparison(operator, Operand::Found(path)).ok_or("an operator")?);
+        if let Some(op) = with_text(alloc, operator, text)? {
+            return Ok(op);
         }
     }
     let constant = Operand::Constant(copy(alloc, operand)?);
-    Ok(comparison(operator.as_bytes(), constant).ok_or("an operator")?)
+    Ok(comparison(operator, constant).ok_or("an operator")?)
 }
 
 fn rule(alloc: Global, variable: &str, op: Op) -> Result<Rule, Fail> {
@@ -264,17 +266,28 @@ fn rules(alloc: Global, letters: &str) -> Result<Vec<Rule>, Fail> {
     Ok(rules)
 }
 
+fn told(answer: Result<bool, PathFailure>) -> &'static str {
+    match answer {
+        Ok(true) => "true",
+        Ok(false) => "false",
+        Err(PathFailure) => "fails",
+    }
+}
+
 #[test]
 fn asks_by_operators(rt: HostRuntime) -> Result<(), Fail> {
-    let value = json(rt.alloc(), VALUE)?;
-    for (variable, operator, operand, wanted) in TESTED {
-        let operand = json(rt.alloc(), operand)?;
-        let rule = rule(rt.alloc(), variable, op(rt.alloc(), operator, &operand)?)?;
-        let rule = copy_rule(rt.alloc(), &rule)?;
+    let alloc = rt.alloc();
+    let value = json(alloc, VALUE)?;
+    for row in TESTED.lines() {
+        let (variable, row) = cell(row)?;
+        let (operator, row) = cell(row)?;
+        let (operand, wanted) = cell(row)?;
+        let op = op(alloc, operator.as_bytes(), &json(alloc, operand)?)?;
+        let rule = copy_rule(alloc, &rule(alloc, variable, op)?)?;
         assert_eq!(rt;
-            matches(&rule, &value).ok(),
+            told(matches(&rule, &value)),
             wanted,
-            "{variable} {operator}"
+            "{variable} {operator} {operand}"
         );
     }
     Ok(())
@@ -282,52 +295,65 @@ fn asks_by_operators(rt: HostRuntime) -> Result<(), Fail> {
 
 #[test]
 fn joins_rules(rt: HostRuntime) -> Result<(), Fail> {
-    let value = json(rt.alloc(), VALUE)?;
-    for (letters, all, some) in JOINED {
-        let together = rules(rt.alloc(), letters)?;
-        let apart = rules(rt.alloc(), letters)?;
+    let alloc = rt.alloc();
+    let value = json(alloc, VALUE)?;
+    for row in JOINED.lines() {
+        let (letters, row) = cell(row)?;
+        let (all, some) = cell(row)?;
+        let together = rules(alloc, letters)?;
+        let apart = rules(alloc, letters)?;
         assert!(rt; !together.is_empty() && !apart.is_empty());
         let and = Rule::And(NonEmpty::from_vec(together));
-        let or = copy_rule(rt.alloc(), &Rule::Or(NonEmpty::from_vec(apart)))?;
-        assert_eq!(rt; matches(&and, &value).ok(), all, "{letters}");
-        assert_eq!(rt; matches(&or, &value).ok(), some, "{letters}");
-        let not = Rule::Not(Boxed::new(rt.alloc(), and)?);
-        let not = copy_rule(rt.alloc(), &not)?;
-        assert_eq!(rt; matches(&not, &value).ok(), all.map(|b| !b), "{letters}");
+        let or = copy_rule(alloc, &Rule::Or(NonEmpty::from_vec(apart)))?;
+        assert_eq!(rt; told(matches(&and, &value)), all, "{letters}");
+        assert_eq!(rt; told(matches(&or, &value)), some, "{letters}");
+        let not = copy_rule(alloc, &Rule::Not(Boxed::new(alloc, and)?))?;
+        let turned = matches(&not, &value).map(|matched| !matched);
+        assert_eq!(rt; told(turned), all, "{letters}");
     }
     Ok(())
 }
 
 #[test]
 fn chooses_the_first(rt: HostRuntime) -> Result<(), Fail> {
-    let value = json(rt.alloc(), VALUE)?;
-    for (letters, wanted) in CHOSEN {
-        let rules = rules(rt.alloc(), letters)?;
+    let alloc = rt.alloc();
+    let value = json(alloc, VALUE)?;
+    for row in CHOSEN.lines() {
+        let (letters, wanted) = cell(row)?;
+        let rules = rules(alloc, letters)?;
         assert!(rt; rules.len() < 10);
-        assert_eq!(rt; choose(rules.as_slice(), &value), wanted, "{letters}");
+        let chosen = match choose(rules.as_slice(), &value) {
+            Ok(Some(index)) => index.to_string(alloc)?,
+            Ok(None) => String::from_str(alloc, "none")?,
+            Err(PathFailure) => String::from_str(alloc, "fails")?,
+        };
+        assert_eq!(rt; chosen.as_str(), wanted, "{letters}");
     }
     Ok(())
 }
 
 #[test]
 fn matches_patterns(rt: HostRuntime) -> Result<(), Fail> {
-    for (pattern, text, wanted) in PATTERNS {
+    for row in PATTERNS.lines() {
+        let (pattern, row) = cell(row)?;
+        let (text, wanted) = cell(row)?;
         let pattern = Pattern::read(rt.alloc(), pattern)?;
-        assert_eq!(rt; pattern.matches(text), wanted, "{text}");
+        assert_eq!(rt; told(Ok(pattern.matches(text))), wanted, "{text}");
     }
     Ok(())
 }
 
 #[test]
 fn spells_patterns(rt: HostRuntime) -> Result<(), Fail> {
-    for (text, wanted) in SPELLED {
-        match (Pattern::read(rt.alloc(), text), wanted) {
-            (Ok(pattern), Some(canonical)) => {
-                assert_eq!(rt; pattern.spell(rt.alloc())?.as_str(), canonical);
-            }
-            (Err(PatternError::LoneBackslash), None) => {}
-            _ => assert!(rt; false, "{text}"),
-        }
+    let alloc = rt.alloc();
+    for row in SPELLED.lines() {
+        let (text, wanted) = cell(row)?;
+        let spelled = match Pattern::read(alloc, text) {
+            Ok(pattern) => pattern.spell(alloc)?,
+            Err(PatternError::LoneBackslash) => Text::from_str(alloc, "-")?,
+            Err(PatternError::NoMemory) => return Err("no memory".into()),
+        };
+        assert_eq!(rt; spelled.as_str(), wanted, "{text}");
     }
     Ok(())
 }
