@@ -1,4 +1,4 @@
-ghost use Rattle.std.specs.Prelude.{◌≡◌, ℕ, List, None, ◌<◌, length, IfOk};
+ghost use Rattle.std.specs.Prelude.{◌≡◌, ℕ, List, ◌<◌, length, IfOk};
 ghost use Rattle.std.specs.declared.option.Option.{Option};
 ghost use Rattle.std.specs.Io.{WritesAtMost};
 ghost use Rattle.std.specs.Io.KnownBytes.{WriteAppends};
@@ -25,8 +25,10 @@ pub trait Sink {
         ensures cause { HasCause (faults self.old) (faults self.new) result };
 }
 
-/// A sink over a standard writer, which tells nothing of the bytes that it takes. Each error of the writer is a fault, and
-/// so is a write that takes nothing of a piece that is not empty.
+/// A sink over a standard writer. Each error of the writer is a fault, and so is a write that takes nothing of a piece that
+/// is not empty.
+///
+/// It tells of the bytes that were taken what its writer tells, and a file, a terminal or a pipe tells nothing.
 #[derive(Drop)]
 pub struct StdSink<W> {
     inner: W,
@@ -43,7 +45,7 @@ impl<W> StdSink<W> {
 }
 
 impl<W: Write> Sink for StdSink<W> {
-    ghost taken = { λ _. None };
+    ghost taken = { λ s. W.contents s.inner };
 
     ghost faults = { λ s. s.faults };
 

@@ -1,4 +1,4 @@
-ghost use Rattle.std.specs.Prelude.{◌≡◌, ℕ, List, None};
+ghost use Rattle.std.specs.Prelude.{◌≡◌, ℕ, List};
 ghost use Rattle.std.specs.declared.option.Option.{Option};
 ghost use Rattle.std.specs.Io.{ReadsAtMost};
 ghost use Rattle.std.specs.Io.KnownBytes.{ReadConsumes};
@@ -27,7 +27,9 @@ pub trait Source {
         ensures cause { HasCause (faults self.old) (faults self.new) result };
 }
 
-/// A source over a standard reader, which tells nothing of the bytes that it gives. Each error of the reader is a fault.
+/// A source over a standard reader. Each error of the reader is a fault.
+///
+/// It tells of the bytes that are left what its reader tells, and a file, a terminal or a pipe tells nothing.
 #[derive(Drop)]
 pub struct StdSource<R> {
     inner: R,
@@ -44,7 +46,7 @@ impl<R> StdSource<R> {
 }
 
 impl<R: Read> Source for StdSource<R> {
-    ghost left = { λ _. None };
+    ghost left = { λ s. R.remaining s.inner };
 
     ghost faults = { λ s. s.faults };
 
