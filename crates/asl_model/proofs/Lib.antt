@@ -1,0 +1,17 @@
+pub mod Lists
+pub mod Tree
+pub mod Before
+pub mod Fans
+pub mod WaysLaw
+pub mod GrowthLaw
+pub mod StandsLaw
+pub mod OrderLaw
+pub mod WaitLaw
+pub mod Uses
+pub mod Ones
+pub mod ExactLaw
+pub mod RangeLaw
+pub mod OpenLaw
+pub mod WorldUse
+pub mod SiteLaw
+pub mod FanLaw

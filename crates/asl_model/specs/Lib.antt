@@ -1,0 +1,9 @@
+pub mod Data
+pub mod Names
+pub mod Head
+pub mod Machine
+pub mod Step
+pub mod Central
+pub mod Stretch
+pub mod Laws
+pub mod Lawful

@@ -1,0 +1,39 @@
+//! What holds of every run of every machine, whatever its answers are: each function's contract is a law, and it does
+//! nothing.
+
+ghost use Rattle.asl_model.specs.Step.{standard};
+ghost use Rattle.asl_model.specs.Lawful.{Lawful, InputAt, OneBody};
+ghost use Rattle.asl_model.specs.Laws.{Growth, Standing, Order, Distinct, OneVisit, SameVisit, CentralGrowth, Next, Waiting, BranchEnds, JoinExactly, Ranges, Adding, Answering, OpenPlaces, EndKept, FanKept, JoinReady};
+
+/// With more answers a central run only grows, and what follows an answer stands in the run.
+pub fn central_runs()
+    ensures growth { CentralGrowth standard }
+    ensures next { Next standard }
+{}
+
+/// The laws of the run of any scope of any block.
+pub fn runs()
+    ensures growth { Growth standard }
+    ensures standing { Standing standard }
+    ensures rising { Order standard }
+    ensures distinct { Distinct standard }
+    ensures one { OneVisit standard }
+    ensures same { SameVisit standard }
+    ensures waits { Waiting standard }
+    ensures ends { BranchEnds standard }
+    ensures join { JoinExactly standard }
+    ensures ranges { Ranges standard }
+    ensures adding { Adding }
+    ensures answering { Answering standard }
+    ensures in_order { OpenPlaces standard }
+    ensures end_kept { EndKept standard }
+    ensures fan_kept { FanKept standard }
+    ensures join_ready { JoinReady standard }
+{}
+
+/// What a proof about worlds uses of runs.
+pub fn lawful()
+    ensures laws { Lawful standard }
+    ensures input_at { InputAt }
+    ensures one_body { OneBody }
+{}
