@@ -1,4 +1,5 @@
 pub mod Lists
+pub mod Trees
 pub mod Tree
 pub mod Before
 pub mod Fans

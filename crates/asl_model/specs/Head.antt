@@ -2,12 +2,8 @@
 -- resources: names on a machine, numbers on a flat form.
 -- Amazon States Language, "State Types" and "Errors" (with "Retrying After Error" and "Fallback States").
 use Rattle.std.specs.Prelude.{ℕ, suc, List, [], ◌∷◌, Option, Some, None, Result, Ok, Err, Bool, true, false, nat_lt, if◌then◌else◌, option_map, slice_get}
+pub use Rattle.asl_model.specs.declared.machine.Retrier.{Retrier}
 use Rattle.asl_model.specs.Data.{Text, Json, Outcome, Done, Failed, failure, Shape, Rule, Path, Template, prepared, handed_on, output, chosen, no_choice, parallel_inputs, map_inputs, match_error, put_error}
-
--- a retrier: the errors that it matches, and how often it may be taken
-pub record Retrier : Type 0 where
-  pub errors : List Text
-  pub most : ℕ
 
 -- a catcher: the errors that it matches, where the error is put (null: nowhere), and the state that follows
 pub record CatcherOf (L : Type 0) : Type 0 where

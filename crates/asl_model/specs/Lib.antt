@@ -1,9 +1,14 @@
 pub mod Data
+pub mod Shapes
 pub mod Names
 pub mod Head
 pub mod Machine
 pub mod Step
 pub mod Central
 pub mod Stretch
+pub mod Blocks
+pub mod Valid
+pub mod Walked
+pub mod Tree
 pub mod Laws
 pub mod Lawful

@@ -1,19 +1,11 @@
 -- Machines as plain trees.
 -- Amazon States Language, "Structure of a State Machine", "State Types", "Parallel State" and "Map State".
-use Rattle.std.specs.Prelude.{◌≡◌, ℕ, suc, max, map, Bool, List, [], ◌∷◌, length, Option, Some, None, if◌then◌else◌}
-use Rattle.asl_model.specs.Data.{Text, Json, Shape, Rule, Path, Template, same_text, repeat}
+use Rattle.std.specs.Prelude.{◌≡◌, ℕ, suc, max, map, List, [], ◌∷◌, length, Option, Some, None, if◌then◌else◌}
+use Rattle.asl_model.specs.Data.{Text, Json, Shape, Path, Template, same_text, repeat}
+pub use Rattle.asl_model.specs.declared.machine.After.{After}
+pub use Rattle.asl_model.specs.declared.machine.TopRule.{TopRule}
 pub use Rattle.asl_model.specs.Head.{Retrier, Used, CatcherOf, CareOf}
 use Rattle.asl_model.specs.Head.{Head, HTask, HPass, HChoice, HSucceed, HFail, HParallel, HMap, bare}
-
--- what follows a state: Next, and whether End stands there
-pub record After : Type 0 where
-  pub next : Option Text
-  pub end : Bool
-
--- a rule of a Choice, and the state that it leads to
-pub record TopRule : Type 0 where
-  pub rule : Rule
-  pub next : Text
 
 abbrev pub Catcher : Type 0
 Catcher = CatcherOf Text

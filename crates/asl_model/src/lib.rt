@@ -1,6 +1,14 @@
 //! State machines in a profile of the Amazon States Language, and what runs of them are.
 #![tactic(auto)]
 
+mod counting;
 mod laws;
+mod machine;
+mod shapes;
+mod validity;
 
+pub use counting::count_states;
 pub use laws::{central_runs, lawful, runs};
+pub use machine::{After, Block, Care, Catcher, Machine, Retrier, State, TopRule};
+pub use shapes::{ItemTemplate, MapShape, PassShape, PathShape};
+pub use validity::{BrokenRule, VRule};
