@@ -16,3 +16,5 @@ pub mod OpenLaw
 pub mod WorldUse
 pub mod SiteLaw
 pub mod FanLaw
+pub mod Found
+pub mod ValidLaw

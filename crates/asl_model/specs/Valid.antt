@@ -1,7 +1,7 @@
 -- The rules of validity, and the list of all that a machine breaks.
 -- Amazon States Language, "Structure of a State Machine", "States", "Transitions", "Choice State", "Parallel State",
 -- "Map State" and "Errors". The bounds are this project's own.
-use Rattle.std.specs.Prelude.{ℕ, ◌+◌, Bool, true, false, not, ◌&&◌, ◌||◌, ◌==◌, nat_lt, map, filter, flat_map, is_some, if◌then◌else◌, length, List, [], ◌∷◌, ◌++◌, Option, Some, None}
+use Rattle.std.specs.Prelude.{ℕ, ◌+◌, Bool, true, false, not, ◌&&◌, ◌||◌, ◌==◌, nat_lt, ◌≡◌, ◌↔◌, ◌<◌, ◌≤◌, slice_get, map, filter, flat_map, is_some, if◌then◌else◌, length, List, [], ◌∷◌, ◌++◌, Option, Some, None}
 use Rattle.std.specs.Bool.{beq}
 use Rattle.std.specs.List.{list_any}
 use Rattle.std.specs.Str.{chars, bytes_eq}
@@ -10,7 +10,8 @@ use Rattle.asl_model.specs.declared.validity.VRule.TheVariants.{V1, V2, V3, V4, 
 use Rattle.asl_model.specs.declared.validity.BrokenRule.{BrokenRule}
 use Rattle.asl_model.specs.Data.{Text, all_errors}
 use Rattle.asl_model.specs.Head.{Head, HTask, HPass, HChoice, HSucceed, HFail, HParallel, HMap, CareOf, CatcherOf, Retrier}
-use Rattle.asl_model.specs.Machine.{Block, State, Task, Pass, Choice, Parallel, Map, After, start_of, state_of, blocks_in, head_of, care_of, limit_of}
+use Rattle.asl_model.specs.Machine.{Block, State, Task, Pass, Choice, Parallel, Map, After, start_of, state_of, blocks_in, head_of, care_of, limit_of, depth}
+use Rattle.asl_model.specs.Laws.{In}
 use Rattle.asl_model.specs.Blocks.{Nested, Row, nested, blocks, rows, nodes}
 
 abbrev pub has_state : Block → Text → Bool
@@ -131,3 +132,44 @@ broken root =
     ++ broken_if (nat_lt 1000 (length (nodes root))) V9 (start_of root)
     ++ broken_at V10 (λ n s. has_bad_care s) root
     ++ broken_at V11 (λ n s. has_bad_limit s) root
+
+-- what holds of a machine that breaks no rule
+
+abbrev pub HasState : Block → Text → Type 0
+HasState b name = (s : State) × (state_of b name ≡ Some s)
+
+-- a fact of each state, with the depth of its block
+abbrev pub EachState : Block → (Nested → Row → Type 0) → Type 0
+EachState root P = (n : Nested) → In n (nested root) → (r : Row) → In r (rows n.block) → P n r
+
+-- exactly one of Next and End
+abbrev pub IsDecided : After → Type 0
+IsDecided after = (is_some after.next ≡ true) ↔ (after.end ≡ false)
+
+abbrev pub HasOneAfter : State → Type 0
+HasOneAfter (Task shape resource after care) = IsDecided after
+HasOneAfter (Pass shape result after) = IsDecided after
+HasOneAfter (Parallel shape bs after care) = IsDecided after
+HasOneAfter (Map shape items selector b after care limit) = IsDecided after
+HasOneAfter _ = Unit {0}
+
+-- what a Choice and a Parallel have
+abbrev pub HasParts : State → Type 0
+HasParts (Choice shape rules default) = 0 < length rules
+HasParts (Parallel shape bs after care) = (0 < length (blocks_in bs)) × (length (blocks_in bs) ≤ 100)
+HasParts _ = Unit {0}
+
+pub record IsValid (root : Block) : Type 0 where
+  pub starts : (b : Block) → In b (blocks root) → HasState b (start_of b)
+  pub goes : EachState root (λ n r. (name : Text) → In name (labels (head_of r.1)) → HasState n.block name)
+  pub apart : (i j : ℕ) (b c : Block) → i < j → slice_get (blocks root) i ≡ Some b → slice_get (blocks root) j ≡ Some c → (name : Text) → In name (map (λ (r : Row). r.0) (rows b)) → HasState c name → ⊥
+  pub named : EachState root (λ n r. (0 < length (chars r.0)) × (length (chars r.0) ≤ 80))
+  pub decided : EachState root (λ n r. HasOneAfter r.1)
+  pub parts : EachState root (λ n r. HasParts r.1)
+  pub shallow : depth root ≤ 8
+  pub few : length (nodes root) ≤ 1000
+  pub careful : EachState root (λ n r. has_bad_care r.1 ≡ false)
+  pub limited : EachState root (λ n r. limit_of r.1 ≤ 1000000)
+
+abbrev pub NothingBroken : Type 0
+NothingBroken = (root : Block) → broken root ≡ [] → IsValid root

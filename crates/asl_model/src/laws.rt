@@ -2,6 +2,7 @@
 //! nothing.
 
 ghost use Rattle.asl_model.specs.Step.{standard};
+ghost use Rattle.asl_model.specs.Valid.{NothingBroken};
 ghost use Rattle.asl_model.specs.Lawful.{Lawful, InputAt, OneBody};
 ghost use Rattle.asl_model.specs.Laws.{Growth, Standing, Order, Distinct, OneVisit, SameVisit, CentralGrowth, Next, Waiting, BranchEnds, JoinExactly, Ranges, Adding, Answering, OpenPlaces, EndKept, FanKept, JoinReady};
 
@@ -36,4 +37,9 @@ pub fn lawful()
     ensures laws { Lawful standard }
     ensures input_at { InputAt }
     ensures one_body { OneBody }
+{}
+
+/// What holds of a machine that breaks no rule of validity.
+pub fn valid()
+    ensures { NothingBroken }
 {}
