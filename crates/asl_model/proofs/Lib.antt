@@ -11,6 +11,7 @@ pub mod WaitLaw
 pub mod Uses
 pub mod Ones
 pub mod ExactLaw
+pub mod Induct
 pub mod RangeLaw
 pub mod OpenLaw
 pub mod WorldUse
