@@ -19,3 +19,4 @@ pub mod SiteLaw
 pub mod FanLaw
 pub mod Found
 pub mod ValidLaw
+pub mod NumberLaw

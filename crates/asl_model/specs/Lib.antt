@@ -10,5 +10,6 @@ pub mod Blocks
 pub mod Valid
 pub mod Walked
 pub mod Tree
+pub mod Numbers
 pub mod Laws
 pub mod Lawful

@@ -3,6 +3,7 @@
 
 ghost use Rattle.asl_model.specs.Step.{standard};
 ghost use Rattle.asl_model.specs.Valid.{NothingBroken};
+ghost use Rattle.asl_model.specs.Numbers.{EnterNumber, NumberMeans, EachHasNumber, OneNumber, StateFound};
 ghost use Rattle.asl_model.specs.Lawful.{Lawful, InputAt, OneBody};
 ghost use Rattle.asl_model.specs.Laws.{Growth, Standing, Order, Distinct, OneVisit, SameVisit, CentralGrowth, Next, Waiting, BranchEnds, JoinExactly, Ranges, Adding, Answering, OpenPlaces, EndKept, FanKept, JoinReady};
 
@@ -42,4 +43,13 @@ pub fn lawful()
 /// What holds of a machine that breaks no rule of validity.
 pub fn valid()
     ensures { NothingBroken }
+{}
+
+/// What the numbers of a machine's functions stand for.
+pub fn numbers()
+    ensures enters { EnterNumber }
+    ensures means { NumberMeans }
+    ensures each { EachHasNumber }
+    ensures one { OneNumber }
+    ensures found { StateFound }
 {}
