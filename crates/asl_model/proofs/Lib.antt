@@ -20,3 +20,4 @@ pub mod FanLaw
 pub mod Found
 pub mod ValidLaw
 pub mod NumberLaw
+pub mod NameLaw

@@ -7,7 +7,7 @@ use Rattle.asl_model.specs.Machine.{State, Task, Pass, Choice, Succeed, Fail, Pa
 use Rattle.asl_model.specs.Head.{begins, or_caught}
 use Rattle.asl_model.specs.Step.{Begun, On, Calls, Fans}
 
-length-repeat : {X : Type 0} (n : ℕ) (x : X) → length (repeat n x) ≡ n
+pub length-repeat : {X : Type 0} (n : ℕ) (x : X) → length (repeat n x) ≡ n
 length-repeat zero x = refl
 length-repeat (suc n) x = ap suc (length-repeat n x)
 
@@ -15,11 +15,11 @@ pub caught_or : {X : Type 0} (name : Text) (raw : Json) (care : Care) (m : Resul
 caught_or name raw care (Ok x) go inputs e = (x, refl, e)
 caught_or name raw care (Err f) go inputs e = absurd (cc)
 
-fitting_is : (t : Bool) (vs inputs : List Json) → (if t then Ok vs else Err data_limit) ≡ Ok inputs → vs ≡ inputs
+pub fitting_is : (t : Bool) (vs inputs : List Json) → (if t then Ok vs else Err data_limit) ≡ Ok inputs → vs ≡ inputs
 fitting_is true vs inputs e = cc
 fitting_is false vs inputs e = absurd (cc)
 
-parallel_count : (n : ℕ) (x : Json) (inputs : List Json) → parallel_inputs n x ≡ Ok inputs → n ≡ length inputs
+pub parallel_count : (n : ℕ) (x : Json) (inputs : List Json) → parallel_inputs n x ≡ Ok inputs → n ≡ length inputs
 unfolding parallel_inputs
 parallel_count n x inputs e = sym (length-repeat n x) ∙ ap length (fitting_is (nat_le (nodes (json.Arr (repeat n x))) 200000) (repeat n x) inputs e)
 

@@ -3,7 +3,7 @@
 
 ghost use Rattle.asl_model.specs.Step.{standard};
 ghost use Rattle.asl_model.specs.Valid.{NothingBroken};
-ghost use Rattle.asl_model.specs.Numbers.{EnterNumber, NumberMeans, EachHasNumber, OneNumber, StateFound};
+ghost use Rattle.asl_model.specs.Numbers.{EnterNumber, NumberMeans, EachHasNumber, OneNumber, StateFound, VisitHasNumber, NamesInRange};
 ghost use Rattle.asl_model.specs.Lawful.{Lawful, InputAt, OneBody};
 ghost use Rattle.asl_model.specs.Laws.{Growth, Standing, Order, Distinct, OneVisit, SameVisit, CentralGrowth, Next, Waiting, BranchEnds, JoinExactly, Ranges, Adding, Answering, OpenPlaces, EndKept, FanKept, JoinReady};
 
@@ -45,11 +45,13 @@ pub fn valid()
     ensures { NothingBroken }
 {}
 
-/// What the numbers of a machine's functions stand for.
+/// What the numbers of a machine's functions stand for, and that the names of a run's visits are in range.
 pub fn numbers()
     ensures enters { EnterNumber }
     ensures means { NumberMeans }
     ensures each { EachHasNumber }
     ensures one { OneNumber }
     ensures found { StateFound }
+    ensures visits { VisitHasNumber }
+    ensures names { NamesInRange }
 {}
