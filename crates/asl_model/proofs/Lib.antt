@@ -21,3 +21,5 @@ pub mod Found
 pub mod ValidLaw
 pub mod NumberLaw
 pub mod NameLaw
+pub mod SizeLaw
+pub mod SequentialLaw

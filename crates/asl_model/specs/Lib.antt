@@ -11,5 +11,6 @@ pub mod Valid
 pub mod Walked
 pub mod Tree
 pub mod Numbers
+pub mod Sequential
 pub mod Laws
 pub mod Lawful

@@ -1,6 +1,7 @@
 //! What holds of every run of every machine, whatever its answers are: each function's contract is a law, and it does
 //! nothing.
 
+ghost use Rattle.asl_model.specs.Sequential.{Bounded, SequentialEnds};
 ghost use Rattle.asl_model.specs.Step.{standard};
 ghost use Rattle.asl_model.specs.Valid.{NothingBroken};
 ghost use Rattle.asl_model.specs.Numbers.{EnterNumber, NumberMeans, EachHasNumber, OneNumber, StateFound, VisitHasNumber, NamesInRange};
@@ -54,4 +55,10 @@ pub fn numbers()
     ensures found { StateFound }
     ensures visits { VisitHasNumber }
     ensures names { NamesInRange }
+{}
+
+/// A run has no more visits than its block's size, and the sequential run has ended.
+pub fn sequential()
+    ensures bounded { Bounded }
+    ensures ends { SequentialEnds }
 {}

@@ -8,7 +8,7 @@ mod shapes;
 mod validity;
 
 pub use counting::count_states;
-pub use laws::{central_runs, lawful, numbers, runs, valid};
+pub use laws::{central_runs, lawful, numbers, runs, sequential, valid};
 pub use machine::{After, Block, Care, Catcher, Machine, Retrier, State, TopRule};
 pub use shapes::{ItemTemplate, MapShape, PassShape, PathShape};
 pub use validity::{BrokenRule, VRule};
