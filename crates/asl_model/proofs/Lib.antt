@@ -23,3 +23,4 @@ pub mod NumberLaw
 pub mod NameLaw
 pub mod SizeLaw
 pub mod SequentialLaw
+pub mod Computed

@@ -12,5 +12,6 @@ pub mod Walked
 pub mod Tree
 pub mod Numbers
 pub mod Sequential
+pub mod Examples
 pub mod Laws
 pub mod Lawful

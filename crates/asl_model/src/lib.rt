@@ -5,10 +5,12 @@ mod counting;
 mod laws;
 mod machine;
 mod shapes;
+mod shown;
 mod validity;
 
 pub use counting::count_states;
 pub use laws::{central_runs, lawful, numbers, runs, sequential, valid};
 pub use machine::{After, Block, Care, Catcher, Machine, Retrier, State, TopRule};
 pub use shapes::{ItemTemplate, MapShape, PassShape, PathShape};
+pub use shown::{examples, failures};
 pub use validity::{BrokenRule, VRule};

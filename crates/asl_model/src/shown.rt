@@ -1,0 +1,24 @@
+//! What the central runs of some small machines are, and what a failure does.
+
+ghost use Rattle.asl_model.specs.Examples.{AnsweredTask, AstrayBreaks, EmptyMap, FanWaits, FirstCatches, LoopEnds, LowestFails, OwnErrorIsCaught, RetriedTask, RetriesFirst, SpentIsCaught, TaskFailedMatches, WaitingTask};
+
+/// The definitions compute on small machines.
+pub fn examples()
+    ensures waiting_task { WaitingTask }
+    ensures answered_task { AnsweredTask }
+    ensures fan_waits { FanWaits }
+    ensures empty_map { EmptyMap }
+    ensures retried_task { RetriedTask }
+    ensures loop_ends { LoopEnds }
+    ensures astray_breaks { AstrayBreaks }
+{}
+
+/// What a failure does: retriers come before catchers, and the lowest index decides.
+pub fn failures()
+    ensures retries_first { RetriesFirst }
+    ensures spent_is_caught { SpentIsCaught }
+    ensures first_catches { FirstCatches }
+    ensures own_error_is_caught { OwnErrorIsCaught }
+    ensures task_failed_matches { TaskFailedMatches }
+    ensures lowest_fails { LowestFails }
+{}
