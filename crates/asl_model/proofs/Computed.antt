@@ -1,10 +1,10 @@
 -- The definitions compute on small machines.
-use Rattle.std.proofs.Common.{◌≡◌, refl, true, ap}
+use Rattle.std.proofs.Common.{refl, ap}
 use Rattle.std.specs.Str.{chars}
-use Rattle.asl_model.specs.Data.{same_text, combine, match_error, all_errors, task_failed, failure}
+use Rattle.asl_model.specs.Data.{same_text, combine, match_error, all_errors, task_failed}
 use Rattle.asl_model.specs.Names.{answers_of}
 use Rattle.asl_model.specs.Central.{scope, hop_limit}
-use Rattle.asl_model.specs.Head.{or_caught, caught}
+use Rattle.asl_model.specs.Head.{or_caught}
 use Rattle.asl_model.specs.Step.{Calls}
 use Rattle.asl_model.specs.Examples.{WaitingTask, AnsweredTask, FanWaits, EmptyMap, RetriedTask, LoopEnds, AstrayBreaks, RetriesFirst, SpentIsCaught, FirstCatches, OwnErrorIsCaught, TaskFailedMatches, LowestFails}
 

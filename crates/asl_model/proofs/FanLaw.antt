@@ -1,12 +1,12 @@
 -- A place has one fan, and the laws that worlds use, together.
 use Rattle.std.proofs.lemmas.Option.{same_Some}
-use Rattle.std.proofs.Common.{◌≡◌, ℕ, zero, suc, List, [], ◌∷◌, length, slice_get, Option, Some, None, refl, sym, ap, ap₂, ◌∙◌, subst, subst₂}
+use Rattle.std.proofs.Common.{◌≡◌, ℕ, zero, suc, List, [], ◌∷◌, length, slice_get, Some, None, refl, sym, ap, ap₂, ◌∙◌, subst, subst₂}
 use Rattle.asl_model.specs.Data.{Text, Json, Outcome}
 use Rattle.asl_model.specs.Names.{Scope, Place, Answers, Name, at_hop, scope_of}
-use Rattle.asl_model.specs.Machine.{Used, Block, State, Task, Pass, Choice, Succeed, Fail, Parallel, Map, start_of, state_of, branches_of}
+use Rattle.asl_model.specs.Machine.{Used, Block, Task, Pass, Choice, Succeed, Fail, Parallel, Map, start_of, state_of, branches_of}
 use Rattle.asl_model.specs.Data.{repeat}
 use Rattle.asl_model.specs.Step.{Fans, Ways, HasOneEach}
-use Rattle.asl_model.specs.Central.{hop_limit, Visited, Entered, Called, Joined, Visit, name_of, kind_of, scope}
+use Rattle.asl_model.specs.Central.{hop_limit, Visited, Visit, name_of, kind_of, scope}
 use Rattle.asl_model.specs.Stretch.{pairs, Fan, children, after}
 use Rattle.asl_model.specs.Laws.{In, Meets, MeetsFan}
 use Rattle.asl_model.specs.Lawful.{Enters, OneFan, FanIs, InputAt, OneBody, Lawful}

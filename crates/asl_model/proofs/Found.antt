@@ -1,6 +1,5 @@
 -- States are found by their names.
-use Rattle.std.proofs.Common.{◌≡◌, Bool, true, false, map, is_some, List, [], ◌∷◌, Option, Some, None, refl, sym, ap, ◌∙◌, subst, inl, inr, if◌then◌else◌}
-use Rattle.std.specs.Str.{bytes_eq}
+use Rattle.std.proofs.Common.{◌≡◌, Bool, true, false, is_some, Option, Some, None, refl, sym, ap, subst, inl, inr, if◌then◌else◌}
 use Rattle.std.proofs.lemmas.Slice.Eq.{bytes_eq-Decides}
 use Rattle.asl_model.specs.Data.{Text, same_text}
 use Rattle.asl_model.specs.Machine.{Block, block, States, no_state, and_state, State, find_state, state_of}

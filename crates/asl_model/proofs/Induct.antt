@@ -1,7 +1,7 @@
 -- What holds of each visit of a run, if it holds of those of a scope's own and comes up from the branches of a fan.
-use Rattle.std.proofs.Common.{◌≡◌, ℕ, zero, suc, ◌+◌, ◌<◌, List, [], ◌∷◌, map, Option, Some, None, length, refl, sym, ap, subst, inl, inr, arith}
+use Rattle.std.proofs.Common.{◌≡◌, ℕ, zero, suc, ◌+◌, ◌<◌, List, [], ◌∷◌, map, Option, Some, None, length, refl, sym, subst, inl, inr, arith}
 use Rattle.asl_model.specs.Data.{Text, Json, Outcome}
-use Rattle.asl_model.specs.Names.{Scope, Place, Answers, child, at_hop}
+use Rattle.asl_model.specs.Names.{Scope, Answers, child, at_hop}
 use Rattle.asl_model.specs.Machine.{Used, Block, State, start_of, state_of, branches_of}
 use Rattle.asl_model.specs.Step.{Begun, On, Calls, Fans, Ways}
 use Rattle.asl_model.specs.Central.{hop_limit, used_by, Visit, Run, Gathered, All_ended, Some_wait, visits_of, each, called, joined, entered, turn, enter, walk, scope}

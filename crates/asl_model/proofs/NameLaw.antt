@@ -1,24 +1,24 @@
 -- Blocks, inputs and places of visits.
-use Rattle.std.proofs.Common.{◌≡◌, ℕ, zero, suc, ◌+◌, ◌<◌, ◌≤◌, ◌⊎◌, map, length, List, [], ◌∷◌, ◌++◌, Option, Some, None, Result, Ok, Err, Bool, true, false, refl, sym, ap, ◌∙◌, subst, inl, inr, arith, if◌then◌else◌, nat_le, leb-true, append_assoc, append-nil}
+use Rattle.std.proofs.Common.{◌≡◌, ℕ, zero, suc, ◌<◌, ◌≤◌, length, List, [], ◌∷◌, ◌++◌, Option, Some, None, Result, Ok, Err, Bool, true, false, refl, sym, ap, ◌∙◌, subst, inl, inr, arith, if◌then◌else◌, nat_le, leb-true, append_assoc, append-nil}
 use Rattle.std.specs.List.{AllByRecursion}
 use Rattle.unum_json.specs.declared.value.Json as json
 use Rattle.unum_json.specs.Tree.{nodes}
 use Rattle.place_name.specs.Names.{IsSeg, IsTrail, IsPlace, IsName}
-use Rattle.place_name.specs.declared.limits.TheConstants.{SESSIONS, HOPS, MOST_BRANCHES, MOST_SEGS}
-use Rattle.asl_model.specs.Data.{Text, Json, Path, Template, Made, prepared, parallel_inputs, map_inputs, data_limit, item_limit, item_limit_error, repeat, and_then, array_in, few, selected, selected_by, with_first, fitting, same_text}
-use Rattle.asl_model.specs.Names.{Seg, Scope, Place, Answers, child, at_hop}
-use Rattle.asl_model.specs.Machine.{Block, block, States, no_state, and_state, State, Task, Pass, Choice, Succeed, Fail, Parallel, Map, Blocks, no_block, and_block, Care, state_of, find_state, blocks_in, branches_of, head_of}
+use Rattle.place_name.specs.declared.limits.TheConstants.{SESSIONS}
+use Rattle.asl_model.specs.Data.{Text, Json, Path, Template, Made, prepared, parallel_inputs, map_inputs, item_limit, item_limit_error, repeat, and_then, array_in, few, selected, selected_by, with_first, fitting, same_text}
+use Rattle.asl_model.specs.Names.{Seg, Scope, Place, Answers}
+use Rattle.asl_model.specs.Machine.{Block, block, States, no_state, and_state, State, Task, Pass, Choice, Succeed, Fail, Parallel, Map, Blocks, no_block, and_block, state_of, find_state, blocks_in, branches_of, head_of}
 use Rattle.asl_model.specs.Head.{begins, or_caught}
-use Rattle.asl_model.specs.Step.{Begun, Calls, Fans, standard}
-use Rattle.asl_model.specs.Central.{hop_limit, Visited, Entered, Called, Joined, Visit, name_of, kind_of, scope}
-use Rattle.asl_model.specs.Laws.{In, IsSound, IsTask, IsJoin, IsBelowScope}
-use Rattle.asl_model.specs.Blocks.{Nested, nested_at, nested_within, nested_under, nested_all, blocks, Row, rows, visited_at}
+use Rattle.asl_model.specs.Step.{Calls, Fans, standard}
+use Rattle.asl_model.specs.Central.{hop_limit, Visited, Entered, Called, Joined, Visit, kind_of}
+use Rattle.asl_model.specs.Laws.{In, IsSound, IsBelowScope}
+use Rattle.asl_model.specs.Blocks.{Nested, nested_at, nested_within, nested_under, nested_all, blocks, visited_at}
 use Rattle.asl_model.specs.Valid.{IsValid, HasParts}
 use Rattle.asl_model.specs.Numbers.{IsVisitIn, VisitHasNumber, NamesInRange}
 use Rattle.asl_model.proofs.Lists.{In-left, In-right}
 use Rattle.asl_model.proofs.Found.{row_of}
 use Rattle.asl_model.proofs.NumberLaw.{in_map, each_has_number_lem}
-use Rattle.asl_model.proofs.WaysLaw.{caught_or, length-repeat, fitting_is, parallel_count}
+use Rattle.asl_model.proofs.WaysLaw.{caught_or, fitting_is, parallel_count}
 use Rattle.asl_model.proofs.StandsLaw.{stands_lem}
 use Rattle.asl_model.proofs.Ones.{standard_one}
 use Rattle.asl_model.proofs.Induct.{IsClosed, visits_by}

@@ -1,5 +1,5 @@
 -- Functions and their numbers.
-use Rattle.std.proofs.Common.{◌≡◌, ℕ, zero, suc, ◌+◌, ◌<◌, ◌≤◌, ◌⊎◌, map, flat_map, length, slice_get, List, [], ◌∷◌, ◌++◌, Option, Some, None, Ok, Bool, true, false, refl, sym, ap, ap₂, ◌∙◌, subst, inl, inr, arith, if◌then◌else◌}
+use Rattle.std.proofs.Common.{◌≡◌, ℕ, zero, suc, ◌<◌, map, flat_map, slice_get, List, [], ◌∷◌, ◌++◌, Some, Bool, true, false, refl, sym, ap, ◌∙◌, subst, inl, inr, arith, if◌then◌else◌}
 use Rattle.std.specs.declared.cmp.Ordering.TheVariants.{Less, Equal}
 use Rattle.std.specs.Ordering.{nat_cmp}
 use Rattle.std.specs.List.{AllByRecursion}
@@ -7,23 +7,16 @@ use Rattle.std.specs.List.Sorted.{IsStrictlySortedBy}
 use Rattle.std.specs.Cmp.Lexicographic.{slice_cmp}
 use Rattle.std.proofs.lemmas.Cmp.{nat_list_cmp_total, tied_itself}
 use Rattle.unum_json.specs.Keys.{IsRising}
-use Rattle.asl_model.specs.Data.{Text, Json, prepared, parallel_inputs, map_inputs, same_text}
-use Rattle.asl_model.specs.Names.{Scope, Answers}
-use Rattle.asl_model.specs.Machine.{Block, block, States, no_state, and_state, State, Task, Pass, Choice, Succeed, Fail, Parallel, Map, Blocks, no_block, and_block, start_of, state_of, states_of, find_state, blocks_in, branches_of, head_of}
-use Rattle.asl_model.specs.Head.{begins}
-use Rattle.asl_model.specs.Step.{Calls, Fans, Ways, standard}
-use Rattle.asl_model.specs.Central.{Visited, Entered, Called, Joined, Visit, scope}
-use Rattle.asl_model.specs.Laws.{In, IsSound}
-use Rattle.asl_model.specs.Blocks.{Nested, nested_at, nested_within, nested_under, nested_all, blocks, Row, rows, rows_of, visited_at, Function, calls_of, functions, function_at}
+use Rattle.asl_model.specs.Data.{Text, same_text}
+use Rattle.asl_model.specs.Machine.{Block, block, States, no_state, and_state, State, Task, Pass, Choice, Succeed, Fail, Parallel, Map, Blocks, no_block, and_block, start_of, state_of, states_of, find_state}
+use Rattle.asl_model.specs.Central.{Visited, Entered, Called, Joined}
+use Rattle.asl_model.specs.Laws.{In}
+use Rattle.asl_model.specs.Blocks.{Nested, nested_at, nested_within, nested_under, nested_all, blocks, Row, rows, rows_of, visited_at, Function, calls_of, functions}
 use Rattle.asl_model.specs.Walked.{HasRisingNames, RisesWithin, RisesUnder, RisesAll, names_of}
-use Rattle.asl_model.specs.Valid.{IsValid, HasState}
-use Rattle.asl_model.specs.Numbers.{EnterNumber, IsVisitIn, NumberMeans, EachHasNumber, OneNumber, VisitHasNumber, StateFound}
+use Rattle.asl_model.specs.Valid.{IsValid}
+use Rattle.asl_model.specs.Numbers.{EnterNumber, IsVisitIn, NumberMeans, EachHasNumber, OneNumber, StateFound}
 use Rattle.asl_model.proofs.Lists.{In-left, In-right, In-cases}
 use Rattle.asl_model.proofs.Found.{same_text_is, same_text_itself, row_of}
-use Rattle.asl_model.proofs.WaysLaw.{caught_or}
-use Rattle.asl_model.proofs.StandsLaw.{stands_lem}
-use Rattle.asl_model.proofs.Ones.{standard_one}
-use Rattle.asl_model.proofs.Induct.{IsClosed, visits_by}
 
 -- ---- lists
 

@@ -1,11 +1,11 @@
 -- Places are in range.
-use Rattle.std.proofs.Common.{◌≡◌, ℕ, zero, suc, ◌+◌, ◌<◌, ◌≤◌, List, [], ◌∷◌, ◌++◌, map, Option, Some, None, Bool, true, false, length, refl, sym, ap, ◌∙◌, subst, inl, inr, arith, append_assoc, append-nil, if◌then◌else◌}
-use Rattle.asl_model.specs.Data.{Text, Json, Outcome, same_text}
-use Rattle.asl_model.specs.Names.{Seg, Scope, Place, Answers, child, at_hop, answers_of}
+use Rattle.std.proofs.Common.{◌≡◌, ℕ, ◌<◌, ◌≤◌, List, [], ◌∷◌, ◌++◌, Some, Bool, true, false, length, refl, sym, ap, ◌∙◌, subst, inl, inr, arith, append_assoc, append-nil, if◌then◌else◌}
+use Rattle.asl_model.specs.Data.{Text, Outcome, same_text}
+use Rattle.asl_model.specs.Names.{Seg, Scope, Place, child, at_hop, answers_of}
 use Rattle.place_name.specs.Same.{place_same}
-use Rattle.asl_model.specs.Machine.{Used, Block, block, States, no_state, and_state, State, Task, Pass, Choice, Succeed, Fail, Parallel, Map, Blocks, no_block, and_block, start_of, find_state, state_of, blocks_in, branches_of, depth, depth_in, depth_of, depth_all}
+use Rattle.asl_model.specs.Machine.{Block, block, States, no_state, and_state, State, Task, Pass, Choice, Succeed, Fail, Parallel, Map, Blocks, no_block, and_block, find_state, state_of, blocks_in, branches_of, depth, depth_in, depth_of, depth_all}
 use Rattle.asl_model.specs.Step.{Ways, HasOneEach}
-use Rattle.asl_model.specs.Central.{hop_limit, Visit, scope}
+use Rattle.asl_model.specs.Central.{hop_limit}
 use Rattle.asl_model.specs.Laws.{In, IsBelowScope, Ranges, IsTask, IsSound, Adding, Answering}
 use Rattle.asl_model.proofs.Tree.{branches_at, inside, branch_in_state}
 use Rattle.asl_model.proofs.GrowthLaw.{growth_lem}

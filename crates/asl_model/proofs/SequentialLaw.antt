@@ -1,5 +1,5 @@
 -- The sequential run has ended.
-use Rattle.std.proofs.Common.{◌≡◌, ℕ, zero, suc, ◌+◌, ◌<◌, ◌≤◌, List, [], ◌∷◌, ◌++◌, Option, Some, None, Bool, true, false, length, refl, sym, ap, ap₂, ◌∙◌, subst, inl, inr, arith, length-append, if◌then◌else◌, ◌==◌, ◌&&◌, eq-eqb}
+use Rattle.std.proofs.Common.{◌≡◌, ℕ, zero, suc, ◌+◌, ◌<◌, ◌≤◌, List, [], ◌∷◌, ◌++◌, Option, Some, None, Bool, true, false, length, refl, sym, ap, ◌∙◌, subst, inl, inr, arith, length-append, if◌then◌else◌}
 use Rattle.asl_model.specs.Data.{Json, Outcome}
 use Rattle.asl_model.specs.Names.{Scope, Place, Answers, answers_of}
 use Rattle.place_name.specs.Same.{place_same}

@@ -1,5 +1,5 @@
 -- No run has more visits than its block's size.
-use Rattle.std.proofs.Common.{◌≡◌, ℕ, zero, suc, ◌+◌, ◌*◌, ◌≤◌, List, [], ◌∷◌, map, Option, Some, None, Ok, Err, Bool, true, false, length, refl, sym, ap, ◌∙◌, subst, inl, inr, arith, length-append, if◌then◌else◌, nat_le, leb-true, mul-le-mul_right}
+use Rattle.std.proofs.Common.{◌≡◌, ℕ, zero, suc, ◌+◌, ◌*◌, ◌≤◌, List, [], ◌∷◌, map, Option, Some, None, Ok, Bool, true, false, length, refl, sym, ap, ◌∙◌, subst, inl, inr, arith, length-append, if◌then◌else◌, mul-le-mul_right}
 use Rattle.asl_model.specs.Data.{Text, Json, Outcome, prepared, map_inputs, item_limit, repeat, same_text}
 use Rattle.asl_model.specs.Names.{Scope, Place, Answers, child, at_hop}
 use Rattle.asl_model.specs.Machine.{Used, Block, block, States, no_state, and_state, State, Task, Pass, Choice, Succeed, Fail, Parallel, Map, Blocks, no_block, and_block, start_of, states_of, find_state, state_of, blocks_in, branches_of, head_of}

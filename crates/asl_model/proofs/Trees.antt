@@ -3,10 +3,10 @@ use Rattle.std.proofs.Common.{◌≡◌, ℕ, suc, ◌+◌, ◌≤◌, List, [],
 use Rattle.asl_model.specs.declared.machine.Block.{Block}
 use Rattle.asl_model.specs.declared.machine.State.{State}
 use Rattle.asl_model.specs.declared.machine.State.TheFolds.{fold_out-Block}
-use Rattle.asl_model.specs.Tree.{state_step, block_step, state_tree, block_tree, states_from, blocks_from}
+use Rattle.asl_model.specs.Tree.{state_step, block_step, state_tree, block_tree, states_from}
 use Rattle.asl_model.specs.Data.{Text}
 use Rattle.asl_model.specs.Machine as m
-use Rattle.asl_model.specs.Blocks.{Row, Nested, rows, rows_of, nodes, blocks, nested_at, nested_within, nested_under, nested_all}
+use Rattle.asl_model.specs.Blocks.{Nested, rows, rows_of, nodes, nested_at, nested_within, nested_under, nested_all}
 use Rattle.std.specs.Map.{keys_of}
 use Rattle.std.proofs.lemmas.List.{drop_all}
 use Rattle.unum_json.specs.Keys.{IsRising}

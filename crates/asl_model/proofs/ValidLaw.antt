@@ -1,19 +1,18 @@
 -- What holds of a machine that breaks no rule.
-use Rattle.std.proofs.Common.{◌≡◌, ℕ, zero, suc, ◌+◌, ◌<◌, ◌≤◌, Bool, true, false, not, ◌&&◌, ◌||◌, ◌==◌, nat_lt, max, map, filter, flat_map, is_some, length, slice_get, List, [], ◌∷◌, ◌++◌, Option, Some, None, refl, sym, ap, ◌∙◌, subst, inl, inr, arith, if◌then◌else◌, ◌⊎◌, ◌↔◌}
+use Rattle.std.proofs.Common.{◌≡◌, ℕ, zero, suc, ◌+◌, ◌<◌, ◌≤◌, Bool, true, false, not, ◌&&◌, ◌||◌, ◌==◌, nat_lt, map, filter, flat_map, is_some, length, slice_get, List, [], ◌∷◌, ◌++◌, Option, Some, None, refl, sym, ap, ◌∙◌, subst, inl, inr, arith, if◌then◌else◌, ◌⊎◌, ◌↔◌}
 use Rattle.std.proofs.lemmas.Bool.{ltb-false, lt-ltb}
 use Rattle.std.specs.List.{list_any}
 use Rattle.std.specs.Bool.{beq}
 use Rattle.std.specs.Str.{chars}
 use Rattle.asl_model.specs.declared.validity.VRule.{VRule}
 use Rattle.asl_model.specs.declared.validity.VRule.TheVariants.{V1, V2, V3, V4, V5, V6, V7, V8, V9, V10, V11}
-use Rattle.asl_model.specs.declared.validity.BrokenRule.{BrokenRule}
 use Rattle.asl_model.specs.Data.{Text}
-use Rattle.asl_model.specs.Machine.{Block, block, States, no_state, and_state, State, Task, Pass, Choice, Succeed, Fail, Parallel, Map, Blocks, no_block, and_block, After, start_of, state_of, blocks_in, head_of, limit_of, depth, depth_in, depth_of, depth_all}
+use Rattle.asl_model.specs.Machine.{Block, block, States, no_state, and_state, State, Task, Pass, Choice, Succeed, Fail, Parallel, Map, Blocks, no_block, and_block, start_of, state_of, blocks_in, head_of, limit_of, depth, depth_in, depth_of, depth_all}
 use Rattle.asl_model.specs.Blocks.{Nested, Row, nested, nested_at, nested_within, nested_under, nested_all, blocks, rows, rows_of, nodes}
 use Rattle.asl_model.specs.Laws.{In}
-use Rattle.asl_model.specs.Valid.{Broken, has_state, labels, is_lost, stands_in, is_misnamed, is_undecided, lacks_after, lacks_choices, has_bad_branches, has_inner, is_too_deep, has_bad_care, has_bad_limit, names_rule, broken_if, broken_in, broken_at, shared_names, broken, HasState, EachState, IsDecided, HasOneAfter, HasParts, IsValid, NothingBroken}
+use Rattle.asl_model.specs.Valid.{Broken, has_state, labels, is_lost, stands_in, is_misnamed, lacks_after, lacks_choices, has_bad_branches, is_too_deep, has_bad_care, has_bad_limit, names_rule, broken_if, broken_in, broken_at, shared_names, HasState, EachState, HasOneAfter, HasParts, NothingBroken}
 use Rattle.asl_model.proofs.Found.{has_row, has_test, test_has, row_of}
-use Rattle.asl_model.proofs.Lists.{In-left, In-right, In-cases}
+use Rattle.asl_model.proofs.Lists.{In-left, In-right}
 
 append_none : {X : Type 0} (xs ys : List X) → xs ++ ys ≡ [] → (xs ≡ []) × (ys ≡ [])
 append_none [] ys e = (refl, e)

@@ -1,11 +1,11 @@
 -- Each fan has one input for each branch.
-use Rattle.std.proofs.Common.{◌≡◌, ℕ, zero, suc, List, Result, Ok, Err, Bool, true, false, length, map, refl, sym, ap, ◌∙◌, if◌then◌else◌, nat_le}
+use Rattle.std.proofs.Common.{◌≡◌, ℕ, zero, suc, List, Result, Ok, Err, Bool, true, false, length, refl, sym, ap, ◌∙◌, if◌then◌else◌, nat_le}
 use Rattle.unum_json.specs.declared.value.Json as json
 use Rattle.unum_json.specs.Tree.{nodes}
-use Rattle.asl_model.specs.Data.{Text, Json, prepared, parallel_inputs, map_inputs, data_limit, repeat}
+use Rattle.asl_model.specs.Data.{Text, Json, prepared, parallel_inputs, data_limit, repeat}
 use Rattle.asl_model.specs.Machine.{State, Task, Pass, Choice, Succeed, Fail, Parallel, Map, Care, blocks_in, branches_of, head_of}
 use Rattle.asl_model.specs.Head.{begins, or_caught}
-use Rattle.asl_model.specs.Step.{Begun, On, Calls, Fans}
+use Rattle.asl_model.specs.Step.{Begun, Calls, Fans}
 
 pub length-repeat : {X : Type 0} (n : ℕ) (x : X) → length (repeat n x) ≡ n
 length-repeat zero x = refl

@@ -1,7 +1,7 @@
 -- The central run: what a machine does for one session, by one recursion on the nested blocks.
 -- Amazon States Language, "Transitions", "Parallel State" and "Map State".
 use Rattle.std.specs.Prelude.{ℕ, zero, suc, List, [], ◌∷◌, ◌++◌, Option, Some, None, if◌then◌else◌, length}
-use Rattle.asl_model.specs.Data.{Text, Json, Null, Outcome, Done, Failed, combine, hop_limit_error, no_state_error, failure, same_text, repeat}
+use Rattle.asl_model.specs.Data.{Text, Json, Null, Outcome, Done, combine, hop_limit_error, no_state_error, failure, same_text, repeat}
 use Rattle.asl_model.specs.Names.{Scope, Place, Kind, Enter, Task as TaskKind, Join, Name, at_hop, child, Answers}
 use Rattle.asl_model.specs.Machine.{Used, Block, block, States, no_state, and_state, State, Task, Pass, Choice, Succeed, Fail, Parallel, Map, Blocks, no_block, and_block, state_of}
 use Rattle.asl_model.specs.Step.{Onward, Goes, Ends, Begun, On, Calls, Fans, Ways}

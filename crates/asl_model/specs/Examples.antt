@@ -2,7 +2,6 @@
 use Rattle.std.specs.Prelude.{◌≡◌, ℕ, List, [], ◌∷◌, Option, Some, None, Ok, Err, Bool, true, false, suc, length, nat_lt, codes}
 use Rattle.place_name.specs.Order.{numbers_of}
 use Rattle.unum_json.specs.declared.value.Json as json
-use Rattle.asl_model.specs.declared.validity.BrokenRule.{BrokenRule}
 use Rattle.asl_model.specs.declared.validity.VRule.TheVariants.{V2, V5}
 use Rattle.asl_model.specs.Data.{Text, Json, Outcome, Done, Failed, Fault, failure, Shape, hop_limit_error, repeat, combine, prepared, match_error, put_error}
 use Rattle.asl_model.specs.Names.{Place, Answers, answers_of}

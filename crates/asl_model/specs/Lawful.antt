@@ -1,11 +1,11 @@
 -- What a proof about worlds may use of the central run: these laws and no definition.
 use Rattle.std.specs.Prelude.{◌≡◌, ◌≢◌, ◌⊎◌, ℕ, slice_get, length, List, Some}
-use Rattle.asl_model.specs.Data.{Json, Outcome}
+use Rattle.asl_model.specs.Data.{Json}
 use Rattle.asl_model.specs.Names.{Scope, Place, at_hop, scope_of, child, Answers}
 use Rattle.asl_model.specs.Machine.{Used, Block, State, state_of, limit_of}
 use Rattle.asl_model.specs.Step.{Ways, Fans}
-use Rattle.asl_model.specs.Central.{Entered, Visited, Visit, scope}
-use Rattle.asl_model.specs.Stretch.{after, children}
+use Rattle.asl_model.specs.Central.{Entered, Visit, scope}
+use Rattle.asl_model.specs.Stretch.{children}
 use Rattle.asl_model.specs.Data.{Text}
 use Rattle.asl_model.specs.Laws.{In, IsSound, Growth, Next, OneVisit, EndKept, FanKept, JoinReady, LeadsTo}
 

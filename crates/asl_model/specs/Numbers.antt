@@ -1,5 +1,5 @@
 -- What the numbers of a machine's functions stand for, and that a visit's place is a name's place.
-use Rattle.std.specs.Prelude.{◌≡◌, ℕ, ◌<◌, ◌⊎◌, slice_get, List, [], Some}
+use Rattle.std.specs.Prelude.{◌≡◌, ℕ, ◌<◌, ◌⊎◌, slice_get, Some}
 use Rattle.place_name.specs.Names.{IsName}
 use Rattle.place_name.specs.declared.limits.TheConstants.{SESSIONS}
 use Rattle.asl_model.specs.Data.{Text, Json}

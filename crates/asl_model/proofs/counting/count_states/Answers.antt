@@ -1,4 +1,4 @@
-use Rattle.std.proofs.Common.{◌≡◌, ◌^◌, ◌-◌, min, sym, ap, ◌∙◌}
+use Rattle.std.proofs.Common.{◌^◌, ◌-◌, min, sym, ap, ◌∙◌}
 use Rattle.asl_model.specs.Tree.{tree_of}
 use Rattle.asl_model.proofs.Trees.{count_nodes}
 use Rattle.asl_model.proofs.counting.count_states.Goals as goal
