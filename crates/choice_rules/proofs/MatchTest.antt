@@ -1,8 +1,7 @@
 -- The test of a match is that of the relation.
-use Rattle.std.proofs.Common.{◌≡◌, ℕ, ◌==◌, ◌↔◌, Bool, true, false, ◌&&◌, ◌||◌, IsTrue, List, [], ◌∷◌, ◌++◌, refl, sym, ap, subst, ◌∙◌, inl, inr}
+use Rattle.std.proofs.Common.{◌≡◌, ℕ, ◌==◌, ◌↔◌, Bool, true, false, ◌&&◌, ◌||◌, IsTrue, List, [], ◌∷◌, ◌++◌, refl, sym, ap, subst, inl, inr}
 use Rattle.std.specs.Prelude.{◌⊎◌}
 use Rattle.std.proofs.lemmas.Bool.{eqb-true, eq-eqb}
-use Rattle.choice_rules.specs.declared.pattern.Piece.{Piece}
 use Rattle.choice_rules.specs.declared.pattern.Piece.TheVariants.{Literal, Star}
 use Rattle.choice_rules.specs.Matching.{Matches, some_end, is_match}
 use Rattle.choice_rules.proofs.Turns.{Pieces}

@@ -1,7 +1,6 @@
 -- The reader of a pattern's text reads what the text spells.
 use Rattle.std.proofs.Common.{◌≡◌, ◌≢◌, ℕ, ◌==◌, Bool, true, false, List, [], ◌∷◌, ◌++◌, Option, Some, None, refl, sym, ap, subst, ◌∙◌, inl, inr, if◌then◌else◌, append_assoc, append-nil}
-use Rattle.std.proofs.lemmas.Bool.{eqb-true, eqb-false, eq-eqb}
-use Rattle.std.specs.Prelude.{◌⊎◌}
+use Rattle.std.proofs.lemmas.Bool.{eqb-true, eqb-false}
 use Rattle.choice_rules.specs.declared.pattern.Piece.{Piece}
 use Rattle.choice_rules.specs.declared.pattern.Piece.TheVariants.{Literal, Star}
 use Rattle.choice_rules.specs.Patterns.{SpellsPiece, SpellsPieces, with_piece, pieces_of, after}

@@ -3,7 +3,6 @@ use Rattle.std.proofs.Common.{◌≡◌, ℕ, ◌+◌, ◌*◌, ◌<◌, ◌≤�
 use Rattle.std.specs.Prelude.{◌⊎◌}
 use Rattle.std.proofs.Math.Nat.{mul-le-mul_left, mul-le-mul_right}
 use Rattle.std.proofs.lemmas.Bool.{eqb-true, eqb-false}
-use Rattle.choice_rules.specs.declared.pattern.Piece.{Piece}
 use Rattle.choice_rules.specs.declared.pattern.Piece.TheVariants.{Literal, Star}
 use Rattle.choice_rules.specs.Matching.{Matches}
 use Rattle.choice_rules.specs.declared.matching.Next.TheVariants.{Answer, More}

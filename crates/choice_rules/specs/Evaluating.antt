@@ -1,7 +1,6 @@
 -- What a rule answers for a value (Amazon States Language, "Choice State"). A path that finds nothing is a failure.
 use Rattle.std.specs.Prelude.{ℕ, ◌+◌, Bool, true, false, not, List, [], ◌∷◌, Option, Some, None, Result, Ok, Err}
 use Rattle.std.specs.Bool.{beq}
-use Rattle.std.specs.Option.{is_some}
 use Rattle.std.specs.Str.{chars}
 use Rattle.unum_json.specs.declared.value.Json.{Json, out-Json}
 use Rattle.unum_json.specs.declared.value.Json.TheOpen.{Json-F}

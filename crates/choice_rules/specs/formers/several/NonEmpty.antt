@@ -1,5 +1,5 @@
 -- `NonEmpty` as a type that may hold the type that holds it, by its values.
-use Rattle.std.specs.Prelude.{◌≡◌, ◌<◌, List, [], length, map}
+use Rattle.std.specs.Prelude.{◌≡◌, ◌<◌, List, []}
 use mathlib.Core.Path.{refl, sym, subst}
 use mathlib.Core.Former.{Former, this, list, via, children}
 use base.Stored.{code_map}

@@ -1,6 +1,5 @@
-use Rattle.std.proofs.Common.{◌↔◌, length}
+use Rattle.std.proofs.Common.{length}
 use Rattle.std.specs.Str.{chars}
-use Rattle.choice_rules.specs.Matching.{Matches}
 use Rattle.choice_rules.specs.Searching.{standing}
 use Rattle.choice_rules.proofs.Searches.{IsSearch, work}
 use Rattle.choice_rules.proofs.pattern.Pattern.matches.Given as goal
