@@ -1,0 +1,10 @@
+pub mod Gets
+pub mod Same
+pub mod Runs
+pub mod Keeps
+pub mod Paces
+pub mod Every
+pub mod Finishes
+pub mod Pigeons
+pub mod Pace
+pub mod Computed

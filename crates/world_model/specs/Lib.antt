@@ -1,0 +1,9 @@
+pub mod Operations
+pub mod Acts
+pub mod Program
+pub mod World
+pub mod Journals
+pub mod Agrees
+pub mod Collecting
+pub mod Paced
+pub mod Rows

@@ -1,0 +1,35 @@
+//! The world that all instances of all sessions share, its events, and what holds after every list of events.
+//!
+//! Its definitions run state machines as a whole: tasks, fans with and without limits, retriers and catchers. Each function's
+//! contract is a law of them, and it does nothing. No law asks anything of the machines, the functions or the sessions.
+#![tactic(auto)]
+
+ghost use Rattle.world_model.specs.Agrees.{Every_run_agrees};
+ghost use Rattle.world_model.specs.Collecting.{Every_run_takes_nothing_early};
+ghost use Rattle.world_model.specs.Paced.{Every_run_keeps_pace};
+ghost use Rattle.world_model.specs.Rows.{One_task, Retried_task, Race};
+
+/// Whatever is delivered, repeated, crashed, answered and given up, every checkpoint belongs to one central run of its
+/// session, in which each visit of a task answers at most once, with the checkpoint that won; and the outcome of every
+/// session that has ended is that run's.
+pub fn agreement()
+    ensures { Every_run_agrees }
+{}
+
+/// Whatever happens, nothing is collected that a name still reads, and no session's outcome is.
+pub fn nothing_taken_early()
+    ensures { Every_run_takes_nothing_early }
+{}
+
+/// Whatever happens, no more branches of a fan with a limit run at a time than the limit says.
+pub fn keeps_pace()
+    ensures { Every_run_keeps_pace }
+{}
+
+/// Small machines take as many events, and come to such ends, as is worked out by hand: a task whose function fails, the
+/// same with two more tries, and two attempts of one task side by side.
+pub fn worked_runs()
+    ensures one_task { One_task }
+    ensures retried { Retried_task }
+    ensures race { Race }
+{}
