@@ -118,7 +118,8 @@ impl World {
 
     /// How the world began.
     pub fn opening(&self) -> &Opening
-        ensures { result.now ≡ self.now.opening }
+        ensures opening { result.now ≡ self.now.opening }
+        ensures few { length self.now.opening.sessions ≤ 1000 }
     {
         &self.opening
     }

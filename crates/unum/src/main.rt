@@ -1,0 +1,33 @@
+//! The program unum: its arguments are the words of the top call, which reads standard input and writes standard
+//! output. It exits with the code of the call's status, and with 6 where no memory is found for the words.
+#![tactic(auto)]
+
+use std::alloc::Global;
+use std::process::ExitCode;
+use std::rt::Env;
+use std::{env, io};
+use unum_cli::{Desk, Status, tool};
+use unum_io::{StdSink, StdSource};
+use unum_json::{Items, NoMemory, Text};
+
+/// The arguments after the program's name, and none where some argument is no text.
+fn words(rt: &(impl Env + AllocGlobal), alloc: Global) -> Result<Items<Text>, NoMemory> {
+    let mut words = Items::new(alloc);
+    if let Ok(args) = env::args(rt) {
+        for arg in args.skip(1) {
+            words.push(Text::from_string(arg))?;
+        }
+    }
+    Ok(words)
+}
+
+fn main(rt: HostRuntime) -> ExitCode {
+    let Ok(words) = words(&rt, rt.alloc()) else {
+        return ExitCode::from(Status::NoMemory.code());
+    };
+    let mut source = StdSource::new(rt.reader());
+    let mut out = StdSink::new(io::writer(&rt));
+    let mut desk = Desk::Empty;
+    let status = tool(rt.alloc(), &words, &mut source, &mut out, &mut desk);
+    ExitCode::from(status.code())
+}

@@ -1,0 +1,4 @@
+pub mod Accepted
+pub mod Due
+pub mod Lines
+pub mod Members

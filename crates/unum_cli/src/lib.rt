@@ -1,0 +1,22 @@
+//! The command line of unum: words and bytes in, a report out.
+#![tactic(auto)]
+
+mod answer;
+mod bundle;
+#[cfg(test)]
+mod expected;
+mod forms;
+mod parts;
+mod plans;
+pub mod session_report;
+mod status;
+mod taking;
+#[cfg(test)]
+mod tests;
+mod top;
+mod values;
+mod words;
+
+pub use answer::{Desk, Rule, Status};
+pub use bundle::{BundleError, read_bundle};
+pub use top::tool;
