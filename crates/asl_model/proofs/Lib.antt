@@ -24,3 +24,4 @@ pub mod NameLaw
 pub mod SizeLaw
 pub mod SequentialLaw
 pub mod Computed
+pub mod StopLaw

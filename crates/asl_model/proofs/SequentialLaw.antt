@@ -1,9 +1,8 @@
 -- The sequential run has ended.
-use Rattle.std.proofs.Common.{◌≡◌, ℕ, zero, suc, ◌+◌, ◌<◌, ◌≤◌, List, [], ◌∷◌, ◌++◌, Option, Some, None, Bool, true, false, length, refl, sym, ap, ◌∙◌, subst, inl, inr, arith, length-append, if◌then◌else◌}
+use Rattle.std.proofs.Common.{◌≡◌, ℕ, zero, suc, ◌+◌, ◌<◌, ◌≤◌, List, [], ◌∷◌, ◌++◌, Option, Some, None, Bool, true, false, length, refl, sym, ap, ◌∙◌, subst, inl, inr, arith, length-append, if◌then◌else◌, ◌&&◌, ◌==◌, eq-eqb}
 use Rattle.asl_model.specs.Data.{Json, Outcome}
-use Rattle.asl_model.specs.Names.{Scope, Place, Answers, answers_of}
-use Rattle.place_name.specs.Same.{place_same}
-use Rattle.place_name.proofs.Sameness.{place_decides}
+use Rattle.asl_model.specs.Names.{Seg, Scope, Place, Answers, answers_of}
+use Rattle.place_name.specs.Same.{place_same, seg_same, trail_same}
 use Rattle.asl_model.specs.Machine.{Block}
 use Rattle.asl_model.specs.Step.{standard}
 use Rattle.asl_model.specs.Central.{Visited, Entered, Called, Joined, Visit, End, Ended, Waits, Run}
@@ -64,8 +63,17 @@ no_more (e ∷ es) vs a h =
     let n : length vs ≡ length (xs ++ v ∷ ys) = ap length is in
     omega (arith, length-append xs ys, length-append xs (v ∷ ys))
 
+both : (a b : Bool) → a ≡ true → b ≡ true → a && b ≡ true
+both a b h k = rw (h, k) refl
+
+segs_itself : (t : List Seg) → trail_same t t ≡ true
+segs_itself [] = refl
+segs_itself (g ∷ t) =
+    both (seg_same g g) (trail_same t t) (both (g.hop == g.hop) (g.index == g.index && g.count == g.count) (eq-eqb g.hop g.hop refl) (both (g.index == g.index) (g.count == g.count) (eq-eqb g.index g.index refl) (eq-eqb g.count g.count refl))) (segs_itself t)
+
 itself : (p : Place) → place_same p p ≡ true
-itself p = (place_decides p p).1 refl
+itself p =
+    both (p.session == p.session && trail_same p.trail p.trail) (p.hop == p.hop) (both (p.session == p.session) (trail_same p.trail p.trail) (eq-eqb p.session p.session refl) (segs_itself p.trail)) (eq-eqb p.hop p.hop refl)
 
 -- a place in the list is found
 found_by : (e : Place × Outcome) (es : List (Place × Outcome)) (f : Place × Outcome) → In f (e ∷ es) → (In f es → answers_of es f.0 ≡ None → ⊥) → (t : Bool) → place_same e.0 f.0 ≡ t → (if t then Some e.1 else answers_of es f.0) ≡ None → ⊥

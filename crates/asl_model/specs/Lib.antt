@@ -12,6 +12,7 @@ pub mod Walked
 pub mod Tree
 pub mod Numbers
 pub mod Sequential
+pub mod Stops
 pub mod Examples
 pub mod Laws
 pub mod Lawful

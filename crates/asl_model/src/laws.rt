@@ -2,6 +2,7 @@
 //! nothing.
 
 ghost use Rattle.asl_model.specs.Sequential.{Bounded, SequentialEnds};
+ghost use Rattle.asl_model.specs.Stops.{AfterMeans, StretchMeans, UsedFits};
 ghost use Rattle.asl_model.specs.Step.{standard};
 ghost use Rattle.asl_model.specs.Valid.{NothingBroken};
 ghost use Rattle.asl_model.specs.Numbers.{EnterNumber, NumberMeans, EachHasNumber, OneNumber, StateFound, VisitHasNumber, NamesInRange};
@@ -61,4 +62,11 @@ pub fn numbers()
 pub fn sequential()
     ensures bounded { Bounded }
     ensures ends { SequentialEnds }
+{}
+
+/// What the Call or the Fan that a scope stops at stands for, and that lists used have one number for each retrier.
+pub fn stops()
+    ensures stretch { StretchMeans }
+    ensures after { AfterMeans }
+    ensures used { UsedFits }
 {}

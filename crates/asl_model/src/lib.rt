@@ -9,7 +9,7 @@ mod shown;
 mod validity;
 
 pub use counting::count_states;
-pub use laws::{central_runs, lawful, numbers, runs, sequential, valid};
+pub use laws::{central_runs, lawful, numbers, runs, sequential, stops, valid};
 pub use machine::{After, Block, Care, Catcher, Machine, Retrier, State, TopRule};
 pub use shapes::{ItemTemplate, MapShape, PassShape, PathShape};
 pub use shown::{examples, failures};
