@@ -1,10 +1,12 @@
 -- The tree's equations, and what is counted in it.
-use Rattle.std.proofs.Common.{◌≡◌, ℕ, suc, ◌+◌, ◌≤◌, List, [], ◌∷◌, ◌++◌, map, flat_map, length, drop, refl, sym, ap, subst, ◌∙◌, arith, length-append}
+use Rattle.std.proofs.Common.{◌≡◌, ℕ, suc, ◌+◌, ◌≤◌, List, [], ◌∷◌, ◌++◌, map, flat_map, length, drop, refl, sym, ap, subst, ◌∙◌, arith, length-append, Option, Some, Bool, true, false, option_map, if◌then◌else◌}
 use Rattle.asl_model.specs.declared.machine.Block.{Block}
 use Rattle.asl_model.specs.declared.machine.State.{State}
 use Rattle.asl_model.specs.declared.machine.State.TheFolds.{fold_out-Block}
 use Rattle.asl_model.specs.Tree.{state_step, block_step, state_tree, block_tree, states_from}
-use Rattle.asl_model.specs.Data.{Text}
+use Rattle.std.specs.Str.{bytes_eq}
+use Rattle.unum_json.specs.Keys.{find_key}
+use Rattle.asl_model.specs.Data.{Text, same_text}
 use Rattle.asl_model.specs.Machine as m
 use Rattle.asl_model.specs.Blocks.{Nested, rows, rows_of, nodes, nested_at, nested_within, nested_under, nested_all}
 use Rattle.std.specs.Map.{keys_of}
@@ -81,3 +83,16 @@ pub rises_all_through : (b : Block) (items : List (Text × State)) (n : ℕ) →
 rises_all_through b items n e r h k =
     let within : RisesWithin (states_from (map row items)) = k (subst (λ l. RisesWithin (states_from (map row l))) (sym (drop_all n items h)) tt) in
     subst HasRisingNames (sym (block_tree-out b)) (subst IsRising (sym (names_are b.states)) r, subst (λ l. RisesWithin (states_from (map row l))) e within)
+
+found_by : (f : Text × State) (rest : m.States) (name : Text) (k : Option State) → option_map state_tree k ≡ m.find_state rest name → (t : Bool) → option_map state_tree (if t then Some f.1 else k) ≡ (if t then Some (state_tree f.1) else m.find_state rest name)
+found_by f rest name k h true = refl
+found_by f rest name k h false = h
+
+found_among : (fs : List (Text × State)) (name : Text) → option_map state_tree (find_key name fs) ≡ m.find_state (states_from (map row fs)) name
+unfolding same_text
+found_among [] name = refl
+found_among (f ∷ fs) name = found_by f (states_from (map row fs)) name (find_key name fs) (found_among fs name) (bytes_eq f.0 name)
+
+-- a state of the block is found in its tree
+pub found_in_tree : (b : Block) (name : Text) → option_map state_tree (find_key name b.states) ≡ m.state_of (block_tree b) name
+found_in_tree b name = found_among b.states name ∙ ap (λ t. m.state_of t name) (sym (block_tree-out b))

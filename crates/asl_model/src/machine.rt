@@ -1,3 +1,8 @@
+ghost use Rattle.std.specs.Prelude.{◌≡◌, option_map};
+ghost use Rattle.std.specs.Option.{option_copied};
+ghost use Rattle.asl_model.specs.Machine.{state_of};
+ghost use Rattle.asl_model.specs.Tree.{block_tree, state_tree};
+
 use crate::shapes::{ItemTemplate, MapShape, PassShape, PathShape};
 use asl_paths::Path;
 use asl_shape::Shape;
@@ -126,6 +131,15 @@ pub struct Block {
     pub start: Text,
     /// The states.
     pub states: Fields<State>,
+}
+
+impl Block {
+    /// The state of that name, or `None` exactly where the block has none.
+    pub fn state(&self, name: &[u8]) -> Option<&State>
+        ensures { option_map state_tree (option_copied result) ≡ state_of (block_tree self.now) name.now }
+    {
+        self.states.get(name)
+    }
 }
 
 /// A state machine.
