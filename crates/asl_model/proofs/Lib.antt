@@ -25,3 +25,4 @@ pub mod SizeLaw
 pub mod SequentialLaw
 pub mod Computed
 pub mod StopLaw
+pub mod EndedLaw

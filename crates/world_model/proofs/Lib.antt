@@ -8,3 +8,4 @@ pub mod Finishes
 pub mod Pigeons
 pub mod Pace
 pub mod Computed
+pub mod Alike

@@ -1,4 +1,4 @@
--- The laws of the central run, said of a session's run on a journal; and what one more entry changes.
+-- The laws of the central run, said of a session's run on a journal (R); and what one more entry changes.
 -- This is the only module here that knows them.
 use Rattle.std.proofs.Common.{ℕ, ◌⊎◌, ◌<◌, ◌≡◌, ◌≢◌, inl, inr, refl, sym, ap, ap₂, ◌∙◌, subst, subst₂, Bool, true, false, cond, List, [], ◌∷◌, ◌++◌, length, slice_get, Option, Some, None}
 use Rattle.asl_model.specs.Data.{Text, Json, Outcome, combine}

@@ -7,3 +7,4 @@ pub mod Agrees
 pub mod Collecting
 pub mod Paced
 pub mod Rows
+pub mod Steady

@@ -1,12 +1,13 @@
 //! The world that all instances of all sessions share, its events, and what holds after every list of events.
 //!
 //! Its definitions run state machines as a whole: tasks, fans with and without limits, retriers and catchers. Each function's
-//! contract is a law of them, and it does nothing. No law asks anything of the machines, the functions or the sessions.
+//! contract is a law of them, and it does nothing. No law asks anything of the machines or the inputs.
 #![tactic(auto)]
 
 ghost use Rattle.world_model.specs.Agrees.{Every_run_agrees};
 ghost use Rattle.world_model.specs.Collecting.{Every_run_takes_nothing_early};
 ghost use Rattle.world_model.specs.Paced.{Every_run_keeps_pace};
+ghost use Rattle.world_model.specs.Steady.{Every_run_ends_alike};
 ghost use Rattle.world_model.specs.Rows.{One_task, Retried_task, Race};
 
 /// Whatever is delivered, repeated, crashed, answered and given up, every checkpoint belongs to one central run of its
@@ -24,6 +25,12 @@ pub fn nothing_taken_early()
 /// Whatever happens, no more branches of a fan with a limit run at a time than the limit says.
 pub fn keeps_pace()
     ensures { Every_run_keeps_pace }
+{}
+
+/// Where no function looks at its ticket, whatever happens makes no difference: the outcome of every session that has ended
+/// is that of its sequential run, and each of its checkpoints is of a visit of that run, with that visit's answer.
+pub fn sequential_outcomes()
+    ensures { Every_run_ends_alike }
 {}
 
 /// Small machines take as many events, and come to such ends, as is worked out by hand: a task whose function fails, the
