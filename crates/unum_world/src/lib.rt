@@ -33,6 +33,8 @@ mod standings;
 mod steps;
 mod stops;
 mod store;
+#[cfg(test)]
+mod tests;
 mod walking;
 mod world;
 
