@@ -169,6 +169,43 @@ fn plans(rt: HostRuntime) -> Result<(), Fail> {
     Ok(())
 }
 
+/// A chain of Tasks with the names 0 to `last`.
+fn chain(alloc: Global, last: u32) -> Result<String, Fail> {
+    let head =
+        "{\"functions\":{\"f\":{\"kind\":\"echo\"}},\"machines\":{\"m\":{\"StartAt\":\"0\",\"States\":{";
+    let mut text = format!(in alloc; "{head}")?;
+    for i in 0..last {
+        let next = i + 1;
+        let state = format!(in alloc;
+            "\"{i}\":{{\"Type\":\"Task\",\"Resource\":\"f\",\"Next\":\"{next}\"}},"
+        )?;
+        text.push_str(state.as_str())?;
+    }
+    let end = format!(in alloc;
+        "\"{last}\":{{\"Type\":\"Task\",\"Resource\":\"f\",\"End\":true}}"
+    )?;
+    text.push_str(end.as_str())?;
+    text.push_str("}}},\"sessions\":[{\"machine\":\"m\",\"input\":5}]}")?;
+    Ok(text)
+}
+
+/// A chain of 1,000 Tasks ends, and one of 1,001 is refused.
+#[test]
+fn a_thousand_tasks(rt: HostRuntime) -> Result<(), Fail> {
+    let text = chain(rt.alloc(), 999)?;
+    let (status, out) = answer(rt.alloc(), &["simulate"], text.as_bytes(), &[], &[])?;
+    assert_eq!(rt; status, Status::Written);
+    assert!(rt;
+        out.held().ends_with(
+            b"entries 1001 events 10008 invocations 1001 attempts 1001 crashes 0 marks 2002\n"
+        )
+    );
+    let text = chain(rt.alloc(), 1000)?;
+    let (status, _) = answer(rt.alloc(), &["simulate"], text.as_bytes(), &[], &[])?;
+    assert_eq!(rt; status, Status::Refused(Rule::L5));
+    Ok(())
+}
+
 fn event(rt: &impl Abort, letters: &[u8]) -> Event {
     assert!(rt; letters.len() == 2 && 48 <= letters[1]);
     let number = u32::from(letters[1] - 48);
