@@ -9,3 +9,4 @@ pub mod Pigeons
 pub mod Pace
 pub mod Computed
 pub mod Alike
+pub mod Asks

@@ -4,6 +4,7 @@ pub mod Program
 pub mod World
 pub mod Journals
 pub mod Agrees
+pub mod Asking
 pub mod Collecting
 pub mod Paced
 pub mod Rows

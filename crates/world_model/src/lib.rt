@@ -5,6 +5,7 @@
 #![tactic(auto)]
 
 ghost use Rattle.world_model.specs.Agrees.{Every_run_agrees};
+ghost use Rattle.world_model.specs.Asking.{Every_call_is_one};
 ghost use Rattle.world_model.specs.Collecting.{Every_run_takes_nothing_early};
 ghost use Rattle.world_model.specs.Paced.{Every_run_keeps_pace};
 ghost use Rattle.world_model.specs.Steady.{Every_run_ends_alike};
@@ -25,6 +26,11 @@ pub fn nothing_taken_early()
 /// Whatever happens, no more branches of a fan with a limit run at a time than the limit says.
 pub fn keeps_pace()
     ensures { Every_run_keeps_pace }
+{}
+
+/// Whatever happens, an attempt that waits for its function has a function to call.
+pub fn calls_are_made()
+    ensures { Every_call_is_one }
 {}
 
 /// Where no function looks at its ticket, whatever happens makes no difference: the outcome of every session that has ended
