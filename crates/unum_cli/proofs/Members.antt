@@ -1,6 +1,7 @@
 -- Members and items that are read one after another.
 use Rattle.std.proofs.Common.{◌≡◌, ℕ, ◌+◌, ◌<◌, List, [], ◌∷◌, ◌++◌, length, take, drop, get_or, Option, Some, None, refl, sym, ap, subst, ◌∙◌, append_assoc}
 use Rattle.std.specs.Option.{option_map}
+use Rattle.std.specs.List.{AllByRecursion}
 use Rattle.std.specs.Map.{keys_of}
 use Rattle.std.proofs.lemmas.List.{drop_more, take_more, take-append-drop, map-append, append-nil}
 use Rattle.unum_json.specs.declared.value.Json.{Json}
@@ -73,3 +74,8 @@ keys_rising {V} {W} all done i item k w rising so_far lt is key =
     subst IsRising (sym (keys_next all done i item k w so_far lt is key))
     (rising_front (keys_of (take (i + 1) all)) (keys_of (drop (i + 1) all))
     (subst IsRising (ap keys_of (sym (take-append-drop (i + 1) all)) ∙ map-append (λ (e : List ℕ × V). e.0) (take (i + 1) all) (drop (i + 1) all)) rising))
+
+-- what holds of each of some and of one more
+pub all_more : {A : Type 0} (P : A → Type 0) (xs : List A) (y : A) → AllByRecursion P xs → P y → AllByRecursion P (xs ++ y ∷ [])
+all_more P [] y h p = (p, tt)
+all_more P (x ∷ xs) y h p = (h.0, all_more P xs y h.1 p)

@@ -13,10 +13,13 @@ use Rattle.unum_json.specs.declared.value.Json.{Json, out-Json}
 use Rattle.unum_json.specs.declared.value.Json.TheOpen.{Json-F}
 use Rattle.fn_table.specs.declared.kind.FnKind.{FnKind}
 use Rattle.fn_table.specs.declared.kind.FnKind.TheVariants as kinds
-use Rattle.asl_chain.specs.declared.machine.After.{After}
-use Rattle.asl_chain.specs.declared.machine.State.{State}
-use Rattle.asl_chain.specs.declared.machine.State.TheVariants.{Task, Succeed}
-use Rattle.asl_chain.specs.declared.machine.Machine.{Machine}
+use Rattle.asl_model.specs.declared.machine.After.{After}
+use Rattle.asl_model.specs.declared.machine.Block.{Block}
+use Rattle.asl_model.specs.declared.machine.State.{State, out-State}
+use Rattle.asl_model.specs.declared.machine.State.TheVariants.{Task, Succeed}
+use Rattle.asl_model.specs.declared.machine.State.TheOpen.{State-F}
+use Rattle.asl_model.specs.declared.machine.Machine.{Machine}
+use Rattle.unum_world.specs.Links.{bare_shape, no_care}
 use Rattle.unum_world.specs.declared.planning.Mishap.{Mishap}
 use Rattle.unum_world.specs.declared.planning.Plan.{Plan}
 use Rattle.unum_world.specs.declared.opening.Session.{Session}
@@ -130,13 +133,13 @@ after_in fs = elim (find_key (codes "Next") fs) [
 ]
 
 abbrev pub task_of : Members → Option State
-task_of fs = text_in (codes "Resource") fs >>= λ r. after_in fs >>= λ a. given (length fs == 3) (Task r a)
+task_of fs = text_in (codes "Resource") fs >>= λ r. after_in fs >>= λ a. given (length fs == 3) (Task bare_shape r a no_care)
 
 abbrev pub state_in : Members → Option (List ℕ) → Option State
 state_in fs None = None
 state_in fs (Some t) =
     if bytes_eq t (codes "Task") then task_of fs
-    else (if bytes_eq t (codes "Succeed") then given (length fs == 1) Succeed else None)
+    else (if bytes_eq t (codes "Succeed") then given (length fs == 1) (Succeed bare_shape) else None)
 
 -- a name has 1 to 80 characters
 abbrev pub is_name : List ℕ → Bool
@@ -157,18 +160,24 @@ leads states None = true
 leads states (Some name) = has_key name states
 
 -- a Task's Resource names a function, and its Next a state
+abbrev pub sound_at : List (List ℕ × FnKind) → States → State-F State Block → Bool
+sound_at fns states (State-F.Task shape resource after care) = has_key resource fns && leads states after.next
+sound_at fns states _ = true
+
 abbrev pub is_sound : List (List ℕ × FnKind) → States → State → Bool
-is_sound fns states (Task resource after) = has_key resource fns && leads states after.next
-is_sound fns states Succeed = true
+is_sound fns states s = sound_at fns states (out-State s)
 
 unfoldable pub all_sound : List (List ℕ × FnKind) → (all states : States) → Bool
 all_sound fns all [] = true
 all_sound fns all (s ∷ rest) = is_sound fns all s.1 && all_sound fns all rest
 
+abbrev pub goes_at : (List ℕ → Bool) → State-F State Block → Bool
+goes_at go (State-F.Task shape resource after care) = elim after.next [ None ↦ true | Some name ↦ go name ]
+goes_at go _ = true
+
 abbrev pub goes_on : (List ℕ → Bool) → Option State → Bool
 goes_on go None = false
-goes_on go (Some Succeed) = true
-goes_on go (Some (Task resource after)) = elim after.next [ None ↦ true | Some name ↦ go name ]
+goes_on go (Some s) = goes_at go (out-State s)
 
 -- from the state of that name, Next leads to an end in at most n states
 unfoldable pub ends_within : (n : ℕ) → States → List ℕ → Bool

@@ -1,7 +1,7 @@
 -- What a reader of a part of a bundle answers, unless memory runs out.
 use Rattle.std.specs.Prelude.{◌≡◌, ℕ, Bool, true, false, List, Option, Some, None, Result, Ok, Err}
 use Rattle.std.specs.Borrow.{Bor}
-use Rattle.asl_chain.specs.declared.machine.State.{State}
+use Rattle.asl_model.specs.declared.machine.State.{State}
 use Rattle.unum_cli.specs.Bundles.{goes_on}
 use Rattle.unum_cli.specs.declared.forms.FormError.{FormError}
 use Rattle.unum_cli.specs.declared.forms.FormError.TheVariants as error

@@ -6,6 +6,7 @@ use Rattle.unum_world.specs.declared.opening.Opening.{Opening}
 use Rattle.unum_world.specs.Chained.{IsDrained}
 use Rattle.unum_world.specs.Seen.{Past, now, IsChosen}
 use Rattle.unum_world.specs.Answers.{IsEnabledSome}
+use Rattle.unum_world.specs.Sound.{IsSound}
 use Rattle.unum_cli.specs.declared.answer.Rule.{Rule}
 use Rattle.unum_cli.specs.declared.answer.Rule.TheVariants.{L0, L1, L5}
 use Rattle.unum_cli.specs.declared.answer.Status.{Status}
@@ -92,6 +93,11 @@ abbrev pub Shows : Status → Desk → (old new : Option (List ℕ)) → Type 0
 Shows Written desk old new = OnDesk desk (λ p. IsChosen p × IsDrained (now p) × Appends old new (report p))
 Shows Spent desk old new = OnDesk desk (λ p. IsChosen p × IsSpent p × Appends old new (report p))
 Shows status desk old new = Unit {0}
+
+-- Every checkpoint of the world on the desk, if there is one, belongs to one central run of its session, and so on.
+abbrev pub HoldsSound : Desk → Type 0
+HoldsSound Empty = Unit {0}
+HoldsSound (Open w) = IsSound w
 
 -- the answers that a simulation has
 abbrev pub IsOfWorld : Status → Type 0

@@ -4,14 +4,18 @@ ghost use Rattle.unum_cli.specs.Bundles.{const_of, kind_of, functions_of, after_
 ghost use Rattle.std.specs.Str.{chars};
 ghost use Rattle.unum_json.specs.Keys.{find_key};
 ghost use Rattle.unum_cli.specs.Forms.{Forms, Follows};
+ghost use Rattle.std.specs.List.{AllByRecursion};
+ghost use Rattle.asl_model.specs.declared.machine.State.{State};
+ghost use Rattle.asl_model.specs.Tree.{state_tree};
+ghost use Rattle.unum_world.specs.Links.{IsChain, IsLink};
 
 use crate::forms::FormError;
 use crate::values::{is_text, is_true, members, object_of, text, text_in};
-use asl_chain::{After, Block, Machine, State};
+use asl_model::{After, Block, Machine, State};
 use fn_table::FnKind;
 use std::alloc::Global;
 use unum_json::{Fields, Json, Text, copy, copy_text, is_small};
-use unum_world::Session;
+use unum_world::{Session, succeed, task};
 
 /// A const with its value.
 fn const_of(alloc: Global, fields: &Fields<Json>) -> Result<FnKind, FormError>
@@ -94,7 +98,8 @@ fn after_in(alloc: Global, fields: &Fields<Json>) -> Result<After, FormError>
 
 /// A Task with exactly its fields.
 fn task_of(alloc: Global, fields: &Fields<Json>) -> Result<State, FormError>
-    ensures { Forms result (task_of fields.now) }
+    ensures form { Forms result (task_of fields.now) }
+    ensures link { IfOk result (λ s. IsLink (state_tree s)) }
 {
     let Some(resource) = text_in(b"Resource", fields) else {
         return Err(FormError::NotAccepted);
@@ -102,7 +107,7 @@ fn task_of(alloc: Global, fields: &Fields<Json>) -> Result<State, FormError>
     let after = after_in(alloc, fields)?;
     if fields.len() == 3 {
         let resource = copy_text(alloc, resource)?;
-        Ok(State::Task { resource, after })
+        Ok(task(alloc, resource, after))
     } else {
         Err(FormError::NotAccepted)
     }
@@ -125,14 +130,15 @@ fn is_name(name: &Text) -> bool
 
 /// A state: a Task or a Succeed with exactly its fields.
 fn state_in(alloc: Global, fields: &Fields<Json>) -> Result<State, FormError>
-    ensures { Forms result (state_in fields.now (text_in (codes "Type") fields.now)) }
+    ensures form { Forms result (state_in fields.now (text_in (codes "Type") fields.now)) }
+    ensures link { IfOk result (λ s. IsLink (state_tree s)) }
 {
     let kind = text_in(b"Type", fields);
     if is_text(b"Task", kind) {
         return task_of(alloc, fields);
     }
     if is_text(b"Succeed", kind) && fields.len() == 1 {
-        return Ok(State::Succeed);
+        return Ok(succeed(alloc));
     }
     Err(FormError::NotAccepted)
 }
@@ -140,7 +146,8 @@ fn state_in(alloc: Global, fields: &Fields<Json>) -> Result<State, FormError>
 /// A state with its name.
 #[tactic(auto, unfolding(crate::specs::Bundles::state_of))]
 fn state_of(alloc: Global, name: &Text, value: &Json) -> Result<State, FormError>
-    ensures { Forms result (state_of name.now value.now) }
+    ensures form { Forms result (state_of name.now value.now) }
+    ensures link { IfOk result (λ s. IsLink (state_tree s)) }
 {
     let Some(fields) = members(value) else {
         return Err(FormError::NotAccepted);
@@ -156,7 +163,8 @@ fn state_of(alloc: Global, name: &Text, value: &Json) -> Result<State, FormError
 /// The states by name.
 #[tactic(auto, unfolding(crate::specs::Bundles::each))]
 fn states_of(alloc: Global, fields: &Fields<Json>) -> Result<Fields<State>, FormError>
-    ensures { Forms result (each state_of fields.now) }
+    ensures form { Forms result (each state_of fields.now) }
+    ensures links { IfOk result (λ ss. AllByRecursion (λ (s : List ℕ × State). IsLink (state_tree s.1)) ss) }
 {
     let mut found = Fields::new(alloc);
     let all = fields.as_slice();
@@ -173,14 +181,18 @@ fn is_sound(functions: &Fields<FnKind>, states: &Fields<State>, state: &State) -
     ensures { result ≡ is_sound functions.now states.now state.now }
 {
     match state {
-        State::Succeed => true,
-        State::Task { resource, after } => {
+        State::Task {
+            resource,
+            after,
+            ..
+        } => {
             functions.get(resource.as_bytes()).is_some()
                 && match &after.next {
                     None => true,
                     Some(name) => states.get(name.as_bytes()).is_some(),
                 }
         }
+        _ => true,
     }
 }
 
@@ -203,8 +215,8 @@ fn next_of<'a>(states: &'a Fields<State>, name: &[u8]) -> Result<Option<&'a Text
 {
     match states.get(name) {
         None => Err(FormError::NotAccepted),
-        Some(State::Succeed) => Ok(None),
-        Some(State::Task { resource: _, after }) => Ok(after.next.as_ref()),
+        Some(State::Task { after, .. }) => Ok(after.next.as_ref()),
+        Some(_) => Ok(None),
     }
 }
 
@@ -240,7 +252,7 @@ pub fn machine_of(
     value: &Json,
 ) -> Result<Machine, FormError>
     ensures form { Forms result (machine_of functions.now value.now) }
-    ensures small { IfOk result (λ m. length m.root.states ≤ 1000) }
+    ensures chain { IfOk result (λ m. IsChain m) }
 {
     let Some(fields) = object_of(2, value) else {
         return Err(FormError::NotAccepted);

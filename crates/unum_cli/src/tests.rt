@@ -1,12 +1,9 @@
-use crate::expected::{BUNDLES, EVENTS, PLANS};
-use crate::session_report::report;
-use crate::{Desk, Rule, Status, read_bundle, tool};
+use crate::expected::{BUNDLES, PLANS};
+use crate::{Desk, Rule, Status, tool};
 use std::alloc::Global;
-use std::process::Abort;
 use std::test::Fail;
 use unum_io::{MemSink, MemSource};
 use unum_json::{Items, NoMemory, Text};
-use unum_world::{ApplyError, Event, World};
 
 fn words(alloc: Global, list: &[&str]) -> Result<Items<Text>, NoMemory> {
     let mut words = Items::new(alloc);
@@ -203,39 +200,5 @@ fn a_thousand_tasks(rt: HostRuntime) -> Result<(), Fail> {
     let text = chain(rt.alloc(), 1000)?;
     let (status, _) = answer(rt.alloc(), &["simulate"], text.as_bytes(), &[], &[])?;
     assert_eq!(rt; status, Status::Refused(Rule::L5));
-    Ok(())
-}
-
-fn event(rt: &impl Abort, letters: &[u8]) -> Event {
-    assert!(rt; letters.len() == 2 && 48 <= letters[1]);
-    let number = u32::from(letters[1] - 48);
-    match letters[0] {
-        b'D' => Event::Deliver(number),
-        b'C' => Event::Crash(number),
-        b'S' => Event::Step(number),
-        b'A' => Event::Answer(number),
-        _ => Event::GiveUp(number),
-    }
-}
-
-/// Lists of events: twins and crashes at every step, nine deliveries, and events that are not enabled.
-#[test]
-fn events(rt: HostRuntime) -> Result<(), Fail> {
-    let alloc = rt.alloc();
-    for (bundle, letters, made, rest) in EVENTS {
-        let good = BUNDLES.get(*bundle).ok_or("no such bundle")?;
-        let opening = read_bundle(alloc, good.as_bytes())?;
-        let mut world = World::open(alloc, opening, 10_000_000)?;
-        for pair in letters.as_bytes().chunks(2) {
-            let e = event(&rt, pair);
-            if world.apply(alloc, e).is_err() {
-                assert!(rt; world.apply(alloc, e) == Err(ApplyError::NotEnabled { event: e }));
-                break;
-            }
-        }
-        let text = report(alloc, &world)?;
-        assert!(rt; text.as_bytes().ends_with(rest.as_bytes()));
-        assert_eq!(rt; world.length(), *made);
-    }
     Ok(())
 }

@@ -3,7 +3,7 @@ ghost use Rattle.unum_io.specs.Causes.{Rose};
 ghost use Rattle.unum_world.specs.Seen.{Fits};
 ghost use Rattle.unum_cli.specs.Words.{command as command_of};
 ghost use Rattle.unum_cli.specs.Bundles.{judged};
-ghost use Rattle.unum_cli.specs.Tool.{due, refusal_text, Answers, AnswersWorld, AnswersUsage, AnswersRefusal, IsOfWorld, Takes, TakesAll, Shows, EndsRead, Wrote};
+ghost use Rattle.unum_cli.specs.Tool.{due, refusal_text, Answers, AnswersWorld, AnswersUsage, AnswersRefusal, IsOfWorld, Takes, TakesAll, Shows, HoldsSound, EndsRead, Wrote};
 
 use crate::answer::{Desk, Rule, Status};
 use crate::bundle::{BundleError, read_bundle};
@@ -92,6 +92,7 @@ fn simulate<K: Sink>(
     requires fits { Fits opening limit }
     ensures told { AnswersWorld opening limit result desk.new (K.taken out.old) (K.taken out.new) }
     ensures only { IsOfWorld result }
+    ensures sound { HoldsSound desk.new }
     ensures later { K.faults out.old ≤ K.faults out.new }
     ensures cause { result ≡ Status.WriteFault → Rose (K.faults out.old) (K.faults out.new) }
 {
@@ -100,6 +101,7 @@ fn simulate<K: Sink>(
     };
     let settled = planned.settle(alloc);
     let world = planned.into_world();
+    world.is_sound();
     let Ok(settled) = settled else {
         *desk = Desk::Open(world);
         return Status::NoMemory;
@@ -139,6 +141,11 @@ pub fn tool<S: Source, K: Sink>(
 
     // Where the source tells its bytes, the status, the text and the desk are what is due for them.
     ensures told { IfSome (S.left source.old) (λ bytes. Answers (due words.now bytes) result desk.new (K.taken out.old) (K.taken out.new)) }
+
+    // Whatever the bytes were and whatever happened: each checkpoint of the world on the desk belongs to one central run of
+    // its session in which each task visit answers at most once, with the checkpoint that won; each ended session's outcome
+    // is that run's; and nothing is collected that an unfinished instance still reads.
+    ensures sound { HoldsSound desk.new }
 
     // Whatever the bytes were, the text is that of the world on the desk, and the source was read to its end.
     ensures shown { Shows result desk.new (K.taken out.old) (K.taken out.new) }

@@ -14,10 +14,7 @@ use Rattle.place_name.specs.declared.obj.Obj.{Obj}
 use Rattle.place_name.specs.declared.obj.Obj.TheVariants as obj
 use Rattle.place_name.specs.Names.{Seg, Name, Parent, scope_of}
 use Rattle.fn_table.specs.Answers.{Asked}
-use Rattle.asl_chain.specs.declared.machine.State.{State}
-use Rattle.asl_chain.specs.declared.machine.State.TheVariants.{Task, Succeed}
-use Rattle.asl_chain.specs.declared.machine.Machine.{Machine}
-use Rattle.asl_chain.specs.Chains.{find}
+use Rattle.asl_model.specs.declared.machine.Machine.{Machine}
 use Rattle.unum_world.specs.declared.held.Kept.{Kept}
 use Rattle.unum_world.specs.declared.held.Held.{Held}
 use Rattle.unum_world.specs.declared.held.Held.TheVariants as held
@@ -38,63 +35,20 @@ use Rattle.unum_world.specs.declared.operation.Op.{Op}
 use Rattle.unum_world.specs.declared.operation.Op.TheVariants as op
 use Rattle.unum_world.specs.declared.operation.Reply.{Reply}
 use Rattle.unum_world.specs.declared.operation.Reply.TheVariants as reply
-use Rattle.unum_world.specs.Stretch.{Used, stop_at, stop_in, stop_found, stretch, go_on, state_at, after_state, after_named, limit_fault, after, call_of, join_around}
-use Rattle.unum_world.specs.Program.{end_ops, acts_of, stop_of, acts, due_enter, due_by, due, parent_of, branch_input, next_of, doing_op, marking, calling, gathers, adopted, after_look, enters_with, calls_with, read_as, after_data, after_create, next_act, after_set, after_act, after_mark, has_more, absorbed, answered, is_do, is_call}
+use Rattle.world_model.specs.Operations
+use Rattle.world_model.specs.Acts.{parent_of, due_enter, due_of}
+use Rattle.unum_world.specs.Stretch.{Used, call_of, join_around}
+use Rattle.unum_world.specs.Links.{IsChain}
+use Rattle.unum_world.specs.Program.{end_ops, acts_of, stop_of, acts, due, branch_input, next_of, doing_op, marking, calling, gathers, adopted, after_look, enters_with, read_as, after_data, after_create, next_act, after_set, after_act, after_mark, has_more, absorbed, answered, is_do, is_call}
 use Rattle.unum_world.specs.Worlds.{Holds, Queued, World, machine_of, machine_at, root_inv, root_invs, root_states, fresh, perform, over, over_live, ended_try, changed, ack_state, crash_state, dead_state, try_state, tick_att, ticked, first_try, reply_to, planned_by, by_plan, carried, by_answer, delivered, given_up_in, asked, can_step, can_answer, effect, run, start}
 use Rattle.unum_world.specs.Plain.{IsPlainKind}
 use Rattle.unum_world.specs.Seen.{Fits}
 use Rattle.unum_world.specs.Chained.{IsChained, IsPhase, Placed, Chaining, Chained}
-use Rattle.unum_world.proofs.Lists.{get_some, get_old, get_last, get_set, get_set_same, get_changed, all_get}
+use Rattle.world_model.proofs.Gets.{get_set}
+use Rattle.unum_world.proofs.Lists.{get_some, get_old, get_last, get_set_same, get_changed, all_get}
 use Rattle.unum_world.proofs.Runs.{run_keeps, at_rule, at_is}
 use Rattle.unum_world.proofs.Bounds.{length_at, over_rule}
-
--- ---------------------------------------------------------------- where a chain stops
-
--- a Task of a state below the hop limit, or the end
-abbrev pub IsStop : Machine → Stop → Type 0
-IsStop m (Call f hop raw used) = (0 < f) × (f ≤ length m.root.states) × (hop < 2000)
-IsStop m (Fan f hop raw inputs used) = ⊥
-IsStop m (End o) = Unit {0}
-
-stop_at_ok : (m : Machine) (k hop : ℕ) (raw : Json) (s : State) → k < length m.root.states → hop < 2000 → IsStop m (stop_at (k + 1) hop raw s)
-stop_at_ok m k hop raw (Task r n) h l = (omega arith, omega arith, l)
-stop_at_ok m k hop raw Succeed h l = tt
-
-stop_in_ok : (m : Machine) (name : List ℕ) (hop : ℕ) (raw : Json) (k : ℕ) → hop < 2000 → (s : Option (List ℕ × State)) → slice_get m.root.states k ≡ s → IsStop m (stop_in name hop raw k s)
-stop_in_ok m name hop raw k l None e = tt
-stop_in_ok m name hop raw k l (Some s) e = stop_at_ok m k hop raw s.1 (slice_get_within m.root.states k s e) l
-
-found_ok : (m : Machine) (name : List ℕ) (hop : ℕ) (raw : Json) → hop < 2000 → (k : Option ℕ) → IsStop m (stop_found m name hop raw k)
-found_ok m name hop raw l None = tt
-found_ok m name hop raw l (Some k) = stop_in_ok m name hop raw k l (slice_get m.root.states k) refl
-
-stretch_ok : (m : Machine) (name : List ℕ) (hop : ℕ) (raw : Json) → IsStop m (stretch m name hop raw)
-stretch_ok m name hop raw = go (nat_lt hop 2000) refl
-  where
-    go : (b : Bool) → nat_lt hop 2000 ≡ b → IsStop m (cond b (stop_found m name hop raw (find name m.root.states)) (End (Failed (limit_fault name))))
-    go true e = found_ok m name hop raw (ltb-true hop 2000 e) (find name m.root.states)
-    go false e = tt
-
-on_ok : (m : Machine) (hop : ℕ) (x : Json) (n : Option (List ℕ)) → IsStop m (go_on m hop x n)
-on_ok m hop x None = tt
-on_ok m hop x (Some name) = stretch_ok m name (hop + 1) x
-
-state_ok : (m : Machine) (hop : ℕ) (x : Json) (s : State) → IsStop m (after_state m hop x s)
-state_ok m hop x (Task r n) = on_ok m hop x n.next
-state_ok m hop x Succeed = tt
-
-named_ok : (m : Machine) (hop : ℕ) (x : Json) (s : Option State) → IsStop m (after_named m hop x s)
-named_ok m hop x None = tt
-named_ok m hop x (Some s) = state_ok m hop x s
-
-pub after_ok : (m : Machine) (func hop : ℕ) (raw : Json) (used : Used) (o : Outcome) → IsStop m (after m func hop raw used o)
-unfolding after
-after_ok m func hop raw used (Failed f) = tt
-after_ok m func hop raw used (Done x) = go (nat_eq func 0)
-  where
-    go : (b : Bool) → IsStop m (cond b (stretch m m.root.start 0 x) (after_named m hop x (state_at m (func - 1))))
-    go true = stretch_ok m m.root.start 0 x
-    go false = named_ok m hop x (state_at m (func - 1))
+use Rattle.unum_world.proofs.Links.{IsStop, after_ok}
 
 -- ---------------------------------------------------------------- the operations of a chain
 
@@ -113,8 +67,12 @@ pub parent_none : (s : ℕ) (t : List Seg) → t ≡ [] → parent_of (record { 
 unfolding parent_of
 parent_none s t e = rw e refl
 
-acts_of_ok : (o : Opening) (m : Machine) (i : Invocation) → IsChained o i → machine_of o i.name.place.session ≡ Some m → (s : Stop) → IsStop m s → AllByRecursion (IsOp o i.name) (acts_of m i s)
-acts_of_ok o m i c e (Call f hop raw used) h = (
+-- the machine of an instance is a chain
+pub chain_is : (o : Opening) (m : Machine) (i : Invocation) → IsChained o i → machine_of o i.name.place.session ≡ Some m → IsChain m
+chain_is o m i c e = subst IsChain (same_Some c.machine m (sym c.machine_is ∙ e)) c.chain
+
+acts_of_ok : (o : Opening) (m : Machine) (i : Invocation) → IsChain m → IsChained o i → machine_of o i.name.place.session ≡ Some m → (s : Stop) → IsStop m s → AllByRecursion (IsOp o i.name) (acts_of m i s)
+acts_of_ok o m i C c e (Call f hop raw used) h = (
   tt,
   (
     record {
@@ -123,19 +81,22 @@ acts_of_ok o m i c e (Call f hop raw used) h = (
       hop = h.2;
       machine = m;
       machine_is = e;
+      chain = C;
       site = (h.0, h.1);
     },
     tt,
   ),
 )
-acts_of_ok o m i c e (Fan f hop raw inputs used) h = absurd h
-acts_of_ok o m i c e (End x) h =
+acts_of_ok o m i C c e (Fan f hop raw inputs used) h = absurd h
+acts_of_ok o m i C c e (End x) h =
     let P : Option Parent → Type 0 = λ q. AllByRecursion (IsOp o i.name) (end_ops m i.func (join_around m i.func) q) in
     (tt, subst P (sym (parent_none i.name.place.session i.name.place.trail c.name.trail)) tt)
 
 act_ok : (o : Opening) (m : Machine) (i : Invocation) (k : Kept) (n : ℕ) (x : Op) → IsChained o i → machine_of o i.name.place.session ≡ Some m → slice_get (acts m i k) n ≡ Some x → IsOp o i.name x
 unfolding acts
-act_ok o m i k n x c e q = all_get (IsOp o i.name) (acts m i k) n x (acts_of_ok o m i c e (stop_of m i k) (after_ok m i.func i.name.place.hop k.raw k.used k.answer)) q
+act_ok o m i k n x c e q =
+    let C : IsChain m = chain_is o m i c e in
+    all_get (IsOp o i.name) (acts m i k) n x (acts_of_ok o m i C c e (stop_of m i k) (after_ok m C i.func i.name.place.hop k.raw k.used k.answer)) q
 
 acts_of_some : (m : Machine) (i : Invocation) (s : Stop) → 0 < length (acts_of m i s)
 acts_of_some m i (Call f hop raw used) = omega arith
@@ -150,7 +111,7 @@ due_enter_some : (n : Name) (q : Option Parent) → 0 < length (due_enter n q)
 due_enter_some n None = omega arith
 due_enter_some n (Some q) = omega arith
 
-due_by_some : (n : Name) (count : ℕ) (k : Kind) → IsPlainKind k → 0 < length (due_by n count k)
+due_by_some : (n : Name) (count : ℕ) (k : Kind) → IsPlainKind k → 0 < length (due_of n count k)
 due_by_some n count kind.Enter h = due_enter_some n (parent_of (scope_of n.place))
 due_by_some n count kind.Task h = omega arith
 due_by_some n count kind.Join h = absurd h
@@ -159,10 +120,10 @@ pub due_some : (n : Name) (count : ℕ) → IsPlainKind n.kind → 0 < length (d
 unfolding due
 due_some n count h = due_by_some n count n.kind h
 
-do_same : (x y : Op) → doing.Do x ≡ doing.Do y → x ≡ y
+pub do_same : (x y : Op) → doing.Do x ≡ doing.Do y → x ≡ y
 do_same x y e = cc
 
-next_at : (x : Op) (s : Option Op) → doing_op s ≡ doing.Do x → s ≡ Some x
+pub next_at : (x : Op) (s : Option Op) → doing_op s ≡ doing.Do x → s ≡ Some x
 next_at x None e = absurd (cc)
 next_at x (Some y) e = ap Some (do_same y x e)
 
@@ -184,19 +145,19 @@ next_ok o m i a l (phase.Call raw used) x c e h q = absurd (next_call x (call_of
 next_ok o m i a l (phase.Create k) x c e h q = subst (IsOp o i.name) (do_same _ x q) refl
 next_ok o m i a l (phase.Act k n) x c e h q = act_ok o m i k n x c e (next_at x (slice_get (acts m i k) n) q)
 next_ok o m i a l (phase.Mark k n) x c e h q = next_mark o i.name x (slice_get (due i.name k.count) n) q
-next_ok o m i a l phase.Ack x c e h q = subst (IsOp o i.name) (do_same _ x q) tt
-next_ok o m i a l phase.Over x c e h q = absurd (cc)
+next_ok o m i a l (phase.Ack done) x c e h q = subst (IsOp o i.name) (do_same _ x q) tt
+next_ok o m i a l (phase.Over done) x c e h q = absurd (cc)
 
 -- ---------------------------------------------------------------- the phases of a chain
 
 abbrev IsAck : Phase → Type 0
-IsAck phase.Ack = Unit {0}
+IsAck (phase.Ack done) = Unit {0}
 IsAck _ = ⊥
 
 -- the phase before an Ack says which operation it is
 next_ack : (m : Machine) (i : Invocation) (a : ℕ) (ph : Phase) (x : Op) → IsAck ph → next_of m i a ph ≡ doing.Do x → op.Ack a ≡ x
 unfolding next_of
-next_ack m i a phase.Ack x h q = do_same (op.Ack a) x q
+next_ack m i a (phase.Ack done) x h q = do_same (op.Ack a) x q
 next_ack m i a phase.Look x h q = absurd h
 next_ack m i a phase.Data x h q = absurd h
 next_ack m i a phase.Saved x h q = absurd h
@@ -205,7 +166,7 @@ next_ack m i a (phase.Call raw used) x h q = absurd h
 next_ack m i a (phase.Create k) x h q = absurd h
 next_ack m i a (phase.Act k n) x h q = absurd h
 next_ack m i a (phase.Mark k n) x h q = absurd h
-next_ack m i a phase.Over x h q = absurd h
+next_ack m i a (phase.Over done) x h q = absurd h
 
 gathers_ok : (m : Machine) (i : Invocation) (l : Bool) (k : Kind) → IsPlainKind k → IsPhase m i l (gathers k)
 gathers_ok m i l kind.Enter h = tt
@@ -236,14 +197,10 @@ enters_ok : (m : Machine) (i : Invocation) (l : Bool) (a : ℕ) (x : Option Json
 enters_ok m i l a None = tt
 enters_ok m i l a (Some x) = tt
 
-calls_ok : (m : Machine) (i : Invocation) (l : Bool) (raw : Json) (used : Used) (c : Option (List ℕ × Json)) → call_of m i.func raw ≡ c → IsPhase m i l (calls_with raw used c)
-calls_ok m i l raw used None e = tt
-calls_ok m i l raw used (Some c) e = λ z. let y : None ≡ Some c = sym z ∙ e in cc
-
 read_ok : (m : Machine) (i : Invocation) (l : Bool) (a : ℕ) (k : Kind) (h : Held) → IsPhase m i l (read_as m i a k h)
 read_ok m i l a kind.Enter (held.Arg raw used) = tt
 read_ok m i l a kind.Enter (held.Saved count raw used) = enters_ok m i l a (branch_input m (join_around m i.func) (parent_of (scope_of i.name.place)) raw)
-read_ok m i l a kind.Task (held.Arg raw used) = calls_ok m i l raw used (call_of m i.func raw) refl
+read_ok m i l a kind.Task (held.Arg raw used) = tt
 read_ok m i l a _ _ = tt
 
 data_ok : (m : Machine) (i : Invocation) (l : Bool) (a : ℕ) (r : Reply) → IsPhase m i l (after_data m i a r)
@@ -284,8 +241,8 @@ absorbed_ok m i a x r l l2 (phase.Call raw used) p h lives ack = h
 absorbed_ok m i a x r l l2 (phase.Create k) p h lives ack = create_ok m i l2 k r
 absorbed_ok m i a x r l l2 (phase.Act k n) p h lives ack = after_act_ok m i l2 p k n (nat_lt (n + 1) (length (acts m i k))) refl x r
 absorbed_ok m i a x r l l2 (phase.Mark k n) p h lives ack = mark_ok m i l2 p k n (nat_lt (n + 1) (length (due i.name k.count))) refl
-absorbed_ok m i a x r l l2 phase.Ack p h lives ack = ack tt
-absorbed_ok m i a x r l l2 phase.Over p h lives ack = still l2 lives
+absorbed_ok m i a x r l l2 (phase.Ack done) p h lives ack = ack tt
+absorbed_ok m i a x r l l2 (phase.Over done) p h lives ack = still l2 lives
   where
     still : (b : Bool) → (b ≡ true → l ≡ true) → IsFalse b
     still false f = refl
@@ -300,8 +257,8 @@ less_ok m i l l2 (phase.Mark k n) f h = h
 less_ok m i l l2 phase.Look f h = h
 less_ok m i l l2 phase.Data f h = h
 less_ok m i l l2 (phase.Create k) f h = h
-less_ok m i l l2 phase.Ack f h = h
-less_ok m i l l2 phase.Over f h = still l2 f
+less_ok m i l l2 (phase.Ack done) f h = h
+less_ok m i l l2 (phase.Over done) f h = still l2 f
   where
     still : (b : Bool) → (b ≡ true → l ≡ true) → IsFalse b
     still false g = refl
@@ -316,8 +273,8 @@ answered_ok m i l a o (phase.Mark k n) h = h
 answered_ok m i l a o phase.Look h = h
 answered_ok m i l a o phase.Data h = h
 answered_ok m i l a o (phase.Create k) h = h
-answered_ok m i l a o phase.Ack h = h
-answered_ok m i l a o phase.Over h = h
+answered_ok m i l a o (phase.Ack done) h = h
+answered_ok m i l a o (phase.Over done) h = h
 
 -- ---------------------------------------------------------------- queues that move on
 
@@ -584,17 +541,17 @@ machine_found : (ms : List (List ℕ × Machine)) (s : Session) (m : List ℕ ×
 machine_found ms s m e = rw (machine_at, e) refl
 
 -- each session of an opening that fits has its machine
-pub session_machine : (o : Opening) (most k : ℕ) → Fits o most → k < length o.sessions → (m : Machine) × (machine_of o k ≡ Some m)
+pub session_machine : (o : Opening) (most k : ℕ) → Fits o most → k < length o.sessions → (m : Machine) × (machine_of o k ≡ Some m) × IsChain m
 session_machine o most k F h =
     let s = get_some o.sessions k h in
     let l : s.0.machine < length o.machines = all_get (λ (z : Session). z.machine < length o.machines) o.sessions k s.0 F.machines s.1 in
     let m = get_some o.machines s.0.machine l in
-    (m.0.1, ap (machine_at o.machines) s.1 ∙ machine_found o.machines s.0 m.0 m.1)
+    (m.0.1, ap (machine_at o.machines) s.1 ∙ machine_found o.machines s.0 m.0 m.1, all_get (λ (z : List ℕ × Machine). IsChain z.1) o.machines s.0.machine m.0 F.chains m.1)
 
 root_ok : (o : Opening) (most k : ℕ) → Fits o most → k < length o.sessions → IsChained o (root_inv k)
 root_ok o most k F h =
     let m = session_machine o most k F h in
-    record { name = record { trail = refl; kind = tt }; session = h; hop = omega arith; machine = m.0; machine_is = m.1; site = (refl, refl) }
+    record { chain = m.2; name = record { trail = refl; kind = tt }; session = h; hop = omega arith; machine = m.0; machine_is = m.1; site = (refl, refl) }
 
 pub chained_start : (o : Opening) (most : ℕ) → Fits o most → Chained (start o)
 chained_start o most F = record {
@@ -627,31 +584,3 @@ placed w a t C e =
 pub not_none : {A : Type 0} (x : Option A) → x ≢ None → (y : A) × (x ≡ Some y)
 not_none None h = absurd (h refl)
 not_none (Some y) h = (y, refl)
-
--- what a live attempt does next: an operation, or a call
-abbrev pub Acts_or_calls : Next → Type 0
-Acts_or_calls x = (is_do x ≡ true) ⊎ (is_call x ≡ true)
-
-pub next_live : (m : Machine) (i : Invocation) (a : ℕ) (ph : Phase) → IsPhase m i true ph → Acts_or_calls (next_of m i a ph)
-unfolding next_of
-next_live m i a phase.Look h = inl refl
-next_live m i a phase.Data h = inl refl
-next_live m i a phase.Saved h = absurd h
-next_live m i a (phase.Outs n raw u s) h = absurd h
-next_live m i a (phase.Call raw used) h = let c = not_none (call_of m i.func raw) h in rw c.1 (inr refl)
-next_live m i a (phase.Create k) h = inl refl
-next_live m i a (phase.Act k n) h = let c = get_some (acts m i k) n h in rw c.1 (inl refl)
-next_live m i a (phase.Mark k n) h = let c = get_some (due i.name k.count) n h in rw c.1 (inl refl)
-next_live m i a phase.Ack h = inl refl
-next_live m i a phase.Over h = absurd (true≢false h)
-
--- a live attempt may make a step or take an answer
-pub able : (w : World) (a : ℕ) (t : AttState) → Chained w → slice_get w.hub.queue.atts a ≡ Some t → t.live ≡ true → (can_step w a ≡ true) ⊎ (can_answer w a ≡ true)
-able w a t C e l =
-    let x = placed w a t C e in
-    let p = x.3 in
-    let P : Bool → Type 0 = λ b. IsPhase x.0 x.1 b x.2 in
-    elim (next_live x.0 x.1 a x.2 (subst P l (C.at_phase a x.0 t x.1 x.2 p))) [
-      | inl s ↦ inl (at_is _ w a _ x.0 t x.1 x.2 p ∙ and_from t.live _ l s)
-      | inr s ↦ inr (at_is _ w a _ x.0 t x.1 x.2 p ∙ and_from t.live _ l s)
-    ]

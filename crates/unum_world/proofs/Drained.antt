@@ -14,7 +14,10 @@ use Rattle.unum_world.specs.Plans.{one_if, twins_from, is_step, crash_step, move
 use Rattle.unum_world.specs.Seen.{Past, now, Fits, chosen_event}
 use Rattle.unum_world.specs.Chained.{live_among, Chained, IsDrained}
 use Rattle.unum_world.proofs.Runs.{at_rule}
-use Rattle.unum_world.proofs.Chained.{able, run_chained}
+use Rattle.unum_world.specs.Plain.{IsPlain}
+use Rattle.unum_world.proofs.Able.{able}
+use Rattle.unum_world.proofs.Chained.{run_chained}
+use Rattle.unum_world.proofs.PlainRuns.{run_plain}
 use Rattle.unum_world.proofs.Lives.{none_lives, run_lives}
 use Rattle.unum_world.proofs.Choices.{From, from_all, from_here, from_next, now_run, allowed_enabled, unchosen}
 
@@ -30,7 +33,10 @@ empty_if true e q = absurd (cc)
 
 -- ---------------------------------------------------------------- no attempt lives
 
-still_move : (w : World) (a : ℕ) (t : AttState) → Chained w → slice_get w.hub.queue.atts a ≡ Some t → move_of w a t ≡ [] → IsFalse t.live
+abbrev pub Fine : World → Type 0
+Fine w = Chained w × IsPlain w
+
+still_move : (w : World) (a : ℕ) (t : AttState) → Fine w → slice_get w.hub.queue.atts a ≡ Some t → move_of w a t ≡ [] → IsFalse t.live
 still_move w a t C e = go t.live refl (is_step (crash_step w.opening.plan a) t.steps)
   where
     go : (l : Bool) → t.live ≡ l → (c : Bool) → cond l (cond c (Crash a ∷ []) (one_if (can_step w a) (Step a) ++ one_if (can_answer w a) (Answer a))) [] ≡ [] → IsFalse l
@@ -38,12 +44,12 @@ still_move w a t C e = go t.live refl (is_step (crash_step w.opening.plan a) t.s
     go true l true q = absurd (cc)
     go true l false q =
         let p = empty_parts (one_if (can_step w a) (Step a)) (one_if (can_answer w a) (Answer a)) q in
-        absurd (elim (able w a t C e l) [
+        absurd (elim (able w a t C.0 C.1 e l) [
           | inl s ↦ true≢false (sym s ∙ empty_if (can_step w a) (Step a) p.0)
           | inr s ↦ true≢false (sym s ∙ empty_if (can_answer w a) (Answer a) p.1)
         ])
 
-still_moves : (w : World) → Chained w → (k : ℕ) (ts : List AttState) → From k w.hub.queue.atts ts → moves_from w k ts ≡ [] →
+still_moves : (w : World) → Fine w → (k : ℕ) (ts : List AttState) → From k w.hub.queue.atts ts → moves_from w k ts ≡ [] →
     (j : ℕ) (t : AttState) → slice_get ts j ≡ Some t → IsFalse t.live
 unfolding moves_from
 still_moves w C k [] f q j t e = absurd (cc)
@@ -93,13 +99,13 @@ allowed_parts w q =
     let p = empty_parts (twins_from w 0 states ++ moves_from w 0 atts) (rests_from 0 states) q in
     ((empty_parts (twins_from w 0 states) (moves_from w 0 atts) p.0).1, p.1)
 
-pub drained_dead : (w : World) → Chained w → allowed w ≡ [] → (a : ℕ) (t : AttState) → slice_get w.hub.queue.atts a ≡ Some t → IsFalse t.live
+pub drained_dead : (w : World) → Fine w → allowed w ≡ [] → (a : ℕ) (t : AttState) → slice_get w.hub.queue.atts a ≡ Some t → IsFalse t.live
 drained_dead w C q a t e = still_moves w C 0 w.hub.queue.atts (from_all w.hub.queue.atts) (allowed_parts w q).0 a t e
 
-drained_rest : (w : World) → Chained w → Counts_are w → allowed w ≡ [] → (k : ℕ) (s : InvState) → slice_get w.hub.queue.states k ≡ Some s → IsFalse (can_deliver s) × IsFalse (can_give_up s)
+drained_rest : (w : World) → Fine w → Counts_are w → allowed w ≡ [] → (k : ℕ) (s : InvState) → slice_get w.hub.queue.states k ≡ Some s → IsFalse (can_deliver s) × IsFalse (can_give_up s)
 drained_rest w C c q k s e = still_rests 0 w.hub.queue.states (allowed_parts w q).1 k s e (c k s e ∙ none_lives k w.hub.queue.atts (drained_dead w C q))
 
-drained_world : (w : World) → Chained w → Counts_are w → allowed w ≡ [] → (e : Event) → IsFalse (enabled w e)
+drained_world : (w : World) → Fine w → Counts_are w → allowed w ≡ [] → (e : Event) → IsFalse (enabled w e)
 unfolding enabled
 drained_world w C c q (Deliver i) = state_false can_deliver (slice_get w.hub.queue.states i) (λ s z. (drained_rest w C c q i s z).0)
 drained_world w C c q (Crash a) = lives_false (slice_get w.hub.queue.atts a) (λ t z. drained_dead w C q a t z)
@@ -109,7 +115,7 @@ drained_world w C c q (GiveUp i) = state_false can_give_up (slice_get w.hub.queu
 
 -- where nothing is allowed after a run, nothing is enabled
 pub run_drained : (o : Opening) (most : ℕ) (es : List Event) (w : World) → Fits o most → run o es ≡ Some w → allowed w ≡ [] → IsDrained w
-run_drained o most es w F e q = drained_world w (run_chained o most es w F e) (λ k s z. run_lives o es w k s e z) q
+run_drained o most es w F e q = drained_world w (run_chained o most es w F e, run_plain o most es w F e) (λ k s z. run_lives o es w k s e z) q
 
 -- and where nothing is enabled, nothing is allowed
 pub drained_none : (w : World) → IsDrained w → allowed w ≡ []

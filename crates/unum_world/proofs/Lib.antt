@@ -1,8 +1,9 @@
-pub mod Apart
+pub mod Able
 pub mod Bounds
 pub mod Chained
 pub mod Choices
 pub mod Drained
+pub mod Links
 pub mod Lists
 pub mod Lives
 pub mod Placing
@@ -11,8 +12,11 @@ pub mod PlainRuns
 pub mod Rests
 pub mod Runs
 pub mod Same
+pub mod SitedPhases
+pub mod SitedRuns
+pub mod SitedStart
+pub mod SitedSteps
 pub mod StepRoom
 pub mod Stores
-pub mod Tickets
-pub mod Tombstones
 pub mod Worldly
+pub mod Zips

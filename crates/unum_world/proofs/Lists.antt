@@ -2,38 +2,9 @@
 use Rattle.std.proofs.Common.{ℕ, zero, suc, ◌≡◌, ◌⊎◌, inl, inr, refl, sym, ◌∙◌, ap, subst, arith, ◌<◌, length, Option, None, List, [], ◌∷◌, ◌++◌, slice_get, slice_set, Some}
 use Rattle.std.proofs.lemmas.Bool.{cases_eq}
 use Rattle.std.specs.List.{AllByRecursion}
+use Rattle.world_model.proofs.Gets.{get_set}
 use Rattle.unum_world.specs.Worlds.{changed}
 use Rattle.std.proofs.lemmas.Option.{same_Some}
-
-pub get_append : {A : Type 0} (xs ys : List A) (k : ℕ) (x : A) → slice_get xs k ≡ Some x → slice_get (xs ++ ys) k ≡ Some x
-get_append [] ys k x e = absurd (cc)
-get_append (y ∷ xs) ys zero x e = e
-get_append (y ∷ xs) ys (suc k) x e = get_append xs ys k x e
-
--- an element of a list with one more: an old one, or the new one
-pub get_pushed : {A : Type 0} (xs : List A) (y : A) (k : ℕ) (x : A) → slice_get (xs ++ y ∷ []) k ≡ Some x → (slice_get xs k ≡ Some x) ⊎ (y ≡ x)
-get_pushed [] y zero x e = inr (same_Some y x e)
-get_pushed [] y (suc k) x e = absurd (cc)
-get_pushed (z ∷ xs) y zero x e = inl e
-get_pushed (z ∷ xs) y (suc k) x e = get_pushed xs y k x e
-
--- an element of a list with one changed: the new one at its number, or an old one elsewhere
-pub get_set : {A : Type 0} (xs : List A) (i : ℕ) (y : A) (k : ℕ) (x : A) → slice_get (slice_set xs i y) k ≡ Some x →
-    ((k ≡ i) × (y ≡ x)) ⊎ (slice_get xs k ≡ Some x)
-get_set [] i y k x e = absurd (cc)
-get_set (z ∷ xs) zero y zero x e = inl (refl, same_Some y x e)
-get_set (z ∷ xs) zero y (suc k) x e = inr e
-get_set (z ∷ xs) (suc i) y zero x e = inr e
-get_set (z ∷ xs) (suc i) y (suc k) x e = elim (get_set xs i y k x e) [ inl p ↦ inl (ap suc p.0, p.1) | inr q ↦ inr q ]
-
--- where an element was, there is it or the new one
-pub set_get : {A : Type 0} (xs : List A) (i : ℕ) (y : A) (k : ℕ) (x : A) → slice_get xs k ≡ Some x →
-    (slice_get (slice_set xs i y) k ≡ Some x) ⊎ ((k ≡ i) × (slice_get (slice_set xs i y) k ≡ Some y))
-set_get [] i y k x e = absurd (cc)
-set_get (z ∷ xs) zero y zero x e = inr (refl, refl)
-set_get (z ∷ xs) zero y (suc k) x e = inl e
-set_get (z ∷ xs) (suc i) y zero x e = inl e
-set_get (z ∷ xs) (suc i) y (suc k) x e = elim (set_get xs i y k x e) [ inl p ↦ inl p | inr q ↦ inr (ap suc q.0, q.1) ]
 
 pub get_some : {A : Type 0} (xs : List A) (k : ℕ) → k < length xs → (x : A) × (slice_get xs k ≡ Some x)
 get_some [] k h = absurd (omega arith)

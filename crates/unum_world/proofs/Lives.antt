@@ -4,7 +4,7 @@ use Rattle.std.specs.Prelude.{IsFalse}
 use Rattle.std.proofs.lemmas.Option.{same_Some, slice_get_within}
 use Rattle.std.proofs.lemmas.Bool.{and_parts, eqb-true, eq-eqb, ne_eqb}
 use Rattle.fn_table.specs.Answers.{Asked}
-use Rattle.asl_chain.specs.declared.machine.Machine.{Machine}
+use Rattle.asl_model.specs.declared.machine.Machine.{Machine}
 use Rattle.unum_world.specs.declared.opening.Opening.{Opening}
 use Rattle.unum_world.specs.declared.planned.PlannedStep.{PlannedStep}
 use Rattle.unum_world.specs.declared.queue.Invocation.{Invocation}
@@ -17,7 +17,8 @@ use Rattle.unum_world.specs.declared.operation.Op.TheVariants as op
 use Rattle.unum_world.specs.Program.{next_of}
 use Rattle.unum_world.specs.Worlds.{Holds, Queued, World, perform, ended_try, changed, ack_state, crash_state, dead_state, try_state, tick_att, ticked, first_try, fresh, planned_by, by_plan, by_answer, delivered, asked, effect, run}
 use Rattle.unum_world.specs.Chained.{live_among}
-use Rattle.unum_world.proofs.Lists.{get_last, get_set, get_changed, get_split}
+use Rattle.world_model.proofs.Gets.{get_set}
+use Rattle.unum_world.proofs.Lists.{get_last, get_changed, get_split}
 use Rattle.unum_world.proofs.Runs.{run_keeps, at_rule}
 use Rattle.unum_world.proofs.Bounds.{length_at, over_rule, root_fresh}
 

@@ -7,7 +7,7 @@ use Rattle.place_name.specs.declared.kind.Kind.TheVariants as kind
 use Rattle.place_name.specs.declared.obj.Obj.{Obj}
 use Rattle.place_name.specs.declared.obj.Obj.TheVariants as obj
 use Rattle.place_name.specs.Names.{Seg, Scope, Place, Name, Parent, scope_of}
-use Rattle.asl_chain.specs.declared.machine.Machine.{Machine}
+use Rattle.asl_model.specs.declared.machine.Machine.{Machine}
 use Rattle.unum_world.specs.declared.held.Kept.{Kept}
 use Rattle.unum_world.specs.declared.stops.Stop.{Stop}
 use Rattle.unum_world.specs.declared.stops.Stop.TheVariants.{Call, Fan, End}
@@ -18,17 +18,25 @@ use Rattle.unum_world.specs.declared.phase.Phase.TheVariants as phase
 use Rattle.unum_world.specs.declared.phase.Next.{Next}
 use Rattle.unum_world.specs.declared.planned.PlannedStep.{PlannedStep}
 use Rattle.unum_world.specs.declared.queue.Invocation.{Invocation}
-use Rattle.unum_world.specs.Program.{parent_of, due, due_by, due_enter, acts, acts_of, end_ops, source, source_of, stop_of, doing_op, marking, calling, is_do, is_call, next_takes_memory}
+use Rattle.world_model.specs.Acts.{parent_of, due_of, due_enter}
+use Rattle.unum_world.specs.Program.{due, acts, acts_of, end_ops, source, source_of, stop_of, doing_op, marking, calling, is_do, is_call, next_takes_memory}
 use Rattle.unum_world.specs.Worlds.{planned_by}
-use Rattle.unum_world.proofs.PlainRuns.{after_plain}
+use Rattle.std.specs.List.{AllByRecursion}
+use Rattle.unum_world.specs.declared.opening.Session.{Session}
+use Rattle.unum_world.specs.declared.opening.Opening.{Opening}
+use Rattle.unum_world.specs.Links.{IsChain}
+use Rattle.unum_world.specs.Worlds.{machine_at, machine_of}
+use Rattle.unum_world.proofs.Lists.{all_get}
+use Rattle.std.proofs.lemmas.Option.{same_Some}
+use Rattle.unum_world.proofs.Chained.{parent_none}
+use Rattle.unum_world.proofs.Links.{after_plain}
 use Rattle.unum_world.specs.Plain.{IsPlainName, IsPlainKind, IsPlainStop, plain_acts, planned_at}
 
 -- a session's own scope is no branch
-pub no_parent : (s : Scope) → s.trail ≡ [] → parent_of s ≡ None
-unfolding parent_of
-no_parent s e = rw e refl
+no_parent : (s : Scope) → s.trail ≡ [] → parent_of s ≡ None
+no_parent s e = parent_none s.session s.trail e
 
-due_kind : (n : Name) (count : ℕ) (k : Kind) → IsPlainKind k → parent_of (scope_of n.place) ≡ None → due_by n count k ≡ obj.Arg n ∷ obj.Check n ∷ []
+due_kind : (n : Name) (count : ℕ) (k : Kind) → IsPlainKind k → parent_of (scope_of n.place) ≡ None → due_of n count k ≡ obj.Arg n ∷ obj.Check n ∷ []
 due_kind n count kind.Enter h e = ap (λ (p : Option Parent). due_enter n p) e
 due_kind n count kind.Task h e = refl
 due_kind n count kind.Join h e = absurd h
@@ -123,8 +131,20 @@ plain_memory n (Fan func hop raw inputs used) at h = absurd h
 plain_memory n (End o) zero h = refl
 plain_memory n (End o) (suc at) h = refl
 
-pub act_memory : (m : Machine) (i : Invocation) (k : Kept) (at : ℕ) → i.name.place.trail ≡ [] → IsTrue (next_takes_memory (doing_op (slice_get (acts m i k) at)))
-act_memory m i k at t =
-    let h : IsPlainStop (stop_of m i k) = after_plain m i.func i.name.place.hop k.raw k.used k.answer in
+pub act_memory : (m : Machine) → IsChain m → (i : Invocation) (k : Kept) (at : ℕ) → i.name.place.trail ≡ [] → IsTrue (next_takes_memory (doing_op (slice_get (acts m i k) at)))
+act_memory m C i k at t =
+    let h : IsPlainStop (stop_of m i k) = after_plain m C i.func i.name.place.hop k.raw k.used k.answer in
     let P : List Op → Type 0 = λ xs. IsTrue (next_takes_memory (doing_op (slice_get xs at))) in
     subst P (sym (acts_plain m i k (stop_of m i k) refl h t)) (plain_memory i.name (stop_of m i k) at h)
+
+-- the machine of a session is a chain
+machine_chain : (ms : List (List ℕ × Machine)) (s : Option Session) (m : Machine) → AllByRecursion (λ (x : List ℕ × Machine). IsChain x.1) ms → machine_at ms s ≡ Some m → IsChain m
+machine_chain ms None m C e = absurd (cc)
+machine_chain ms (Some s) m C e = go (slice_get ms s.machine) refl e
+  where
+    go : (x : Option (List ℕ × Machine)) → slice_get ms s.machine ≡ x → (elim x [ None ↦ None | Some y ↦ Some y.1 ]) ≡ Some m → IsChain m
+    go None q r = absurd (cc)
+    go (Some y) q r = subst IsChain (same_Some y.1 m r) (all_get (λ (x : List ℕ × Machine). IsChain x.1) ms s.machine y C q)
+
+pub chain_at : (o : Opening) (session : ℕ) (m : Machine) → AllByRecursion (λ (x : List ℕ × Machine). IsChain x.1) o.machines → machine_of o session ≡ Some m → IsChain m
+chain_at o session m C e = machine_chain o.machines (slice_get o.sessions session) m C e

@@ -1,7 +1,7 @@
 -- What each event keeps, each run keeps; and an attempt with its machine, its invocation and its phase.
 use Rattle.std.proofs.Common.{ℕ, suc, ◌+◌, ◌≡◌, refl, sym, subst, arith, Bool, true, false, cond, List, [], ◌∷◌, ◌++◌, length, slice_get, Option, Some, None}
 use Rattle.std.proofs.lemmas.Option.{same_Some}
-use Rattle.asl_chain.specs.declared.machine.Machine.{Machine}
+use Rattle.asl_model.specs.declared.machine.Machine.{Machine}
 use Rattle.unum_world.specs.declared.opening.Opening.{Opening}
 use Rattle.unum_world.specs.declared.phase.Phase.{Phase}
 use Rattle.unum_world.specs.declared.queue.Invocation.{Invocation}

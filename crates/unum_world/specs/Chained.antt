@@ -2,14 +2,14 @@
 use Rattle.std.specs.Prelude.{ℕ, ◌≡◌, ◌≢◌, ◌<◌, ◌≤◌, ◌+◌, ◌&&◌, Bool, false, IsFalse, cond, nat_eq, List, [], ◌∷◌, length, slice_get, Some, None}
 use Rattle.place_name.specs.declared.kind.Kind.{Kind}
 use Rattle.place_name.specs.declared.kind.Kind.TheVariants as kind
-use Rattle.asl_chain.specs.declared.machine.Machine.{Machine}
+use Rattle.asl_model.specs.declared.machine.Machine.{Machine}
 use Rattle.unum_world.specs.declared.opening.Opening.{Opening}
 use Rattle.unum_world.specs.declared.phase.Phase.{Phase}
 use Rattle.unum_world.specs.declared.phase.Phase.TheVariants as phase
 use Rattle.unum_world.specs.declared.queue.Invocation.{Invocation}
 use Rattle.unum_world.specs.declared.queue.AttState.{AttState}
 use Rattle.unum_world.specs.declared.queue.Event.{Event}
-use Rattle.unum_world.specs.Stretch.{call_of}
+use Rattle.unum_world.specs.Links.{IsChain}
 use Rattle.unum_world.specs.Program.{acts, due}
 use Rattle.unum_world.specs.Worlds.{Queued, World, machine_of, enabled}
 use Rattle.unum_world.specs.Plain.{IsPlainName}
@@ -27,16 +27,16 @@ pub record IsChained (o : Opening) (i : Invocation) : Type 0 where
   pub hop : i.name.place.hop < 2000
   pub machine : Machine
   pub machine_is : machine_of o i.name.place.session ≡ Some machine
+  pub chain : IsChain machine
   pub site : IsSite machine i.name.kind i.name.place.hop i.func
 
--- a phase that a chain reaches: it has a call, an act or a mark to make, and it is over only where the attempt does not live
+-- a phase that a chain reaches: it has an act or a mark to make, and it is over only where the attempt does not live
 abbrev pub IsPhase : Machine → Invocation → (live : Bool) → Phase → Type 0
 IsPhase m i live phase.Saved = ⊥
 IsPhase m i live (phase.Outs count raw used outs) = ⊥
-IsPhase m i live (phase.Call raw used) = call_of m i.func raw ≢ None
 IsPhase m i live (phase.Act k at) = at < length (acts m i k)
 IsPhase m i live (phase.Mark k at) = at < length (due i.name k.count)
-IsPhase m i live phase.Over = IsFalse live
+IsPhase m i live (phase.Over finished) = IsFalse live
 IsPhase m i live _ = Unit {0}
 
 -- the attempt of that number, with its machine, its invocation and its phase

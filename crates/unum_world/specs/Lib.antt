@@ -1,13 +1,15 @@
 pub mod Answers
 pub mod Chained
 pub mod Codes
-pub mod Journals
 pub mod Latest
+pub mod Links
 pub mod Plain
 pub mod Plans
 pub mod Program
 pub mod Replies
 pub mod Seen
 pub mod Sessions
+pub mod Sited
+pub mod Sound
 pub mod Stretch
 pub mod Worlds

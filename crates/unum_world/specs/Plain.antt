@@ -5,7 +5,7 @@ use Rattle.place_name.specs.declared.kind.Kind.{Kind}
 use Rattle.place_name.specs.declared.kind.Kind.TheVariants as kind
 use Rattle.place_name.specs.declared.obj.Obj.TheVariants as obj
 use Rattle.place_name.specs.Names.{Name, scope_of}
-use Rattle.asl_chain.specs.declared.machine.Machine.{Machine}
+use Rattle.asl_model.specs.declared.machine.Machine.{Machine}
 use Rattle.unum_world.specs.declared.held.Held.TheVariants as held
 use Rattle.unum_world.specs.declared.stops.Stop.{Stop}
 use Rattle.unum_world.specs.declared.stops.Stop.TheVariants.{Call, Fan, End}
@@ -17,7 +17,9 @@ use Rattle.unum_world.specs.declared.planned.PlannedStep.{PlannedStep}
 use Rattle.unum_world.specs.declared.queue.Invocation.{Invocation}
 use Rattle.unum_world.specs.declared.queue.AttState.{AttState}
 use Rattle.unum_world.specs.Stretch.{call_of}
-use Rattle.unum_world.specs.Program.{name_at, acts, due}
+use Rattle.world_model.specs.Operations.{name_at}
+use Rattle.unum_world.specs.Links.{IsChain}
+use Rattle.unum_world.specs.Program.{acts, due}
 use Rattle.unum_world.specs.Worlds.{World, machine_of}
 
 abbrev pub IsPlainKind : Kind → Type 0
@@ -68,7 +70,7 @@ IsFirstOf (phase.Mark k at) = at ≡ 0
 IsFirstOf _ = Unit {0}
 
 pub record IsPlain (w : World) : Type 0 where
-  pub states : AllByRecursion (λ m. length m.1.root.states ≤ 1000) w.opening.machines
+  pub chains : AllByRecursion (λ (m : List ℕ × Machine). IsChain m.1) w.opening.machines
   pub names : (k : ℕ) (i : Invocation) → slice_get w.hub.queue.invs k ≡ Some i → IsPlainName i.name
   pub phases : (a : ℕ) (t : AttState) (i : Invocation) (m : Machine) (ph : Phase) →
       slice_get w.hub.queue.atts a ≡ Some t → slice_get w.hub.queue.invs t.inv ≡ Some i → machine_of w.opening i.name.place.session ≡ Some m →

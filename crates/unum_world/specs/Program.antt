@@ -12,8 +12,12 @@ use Rattle.place_name.specs.declared.kind.Kind.{Kind}
 use Rattle.place_name.specs.declared.kind.Kind.TheVariants as kind
 use Rattle.place_name.specs.declared.obj.Obj.{Obj}
 use Rattle.place_name.specs.declared.obj.Obj.TheVariants as obj
-use Rattle.place_name.specs.Names.{Seg, Scope, Place, Name, Parent, scope_of, child_of}
-use Rattle.asl_chain.specs.declared.machine.Machine.{Machine}
+use Rattle.place_name.specs.Names.{Place, Name, Parent, scope_of}
+use Rattle.asl_model.specs.Names.{child}
+use Rattle.asl_model.specs.declared.machine.Machine.{Machine}
+use Rattle.world_model.specs.Operations.{name_at}
+use Rattle.world_model.specs.Acts as model
+use Rattle.world_model.specs.Acts.{parent_of, at_once}
 use Rattle.unum_world.specs.declared.held.Kept.{Kept}
 use Rattle.unum_world.specs.declared.held.Held.{Held}
 use Rattle.unum_world.specs.declared.held.Held.TheVariants as held
@@ -31,32 +35,6 @@ use Rattle.unum_world.specs.declared.phase.Next.{Next}
 use Rattle.unum_world.specs.declared.phase.Next.TheVariants as doing
 use Rattle.unum_world.specs.Stretch.{Used, after, call_of, join_around, width, input_of, combine}
 
--- ---------------------------------------------------------------- names
-
-abbrev pub name_at : Scope → (hop : ℕ) → Kind → Name
-name_at s hop k = record { place = record { session = s.session; trail = s.trail; hop = hop }; kind = k }
-
--- the scope of a branch of the fan at a place
-abbrev pub branch_of : Place → (index count : ℕ) → Scope
-branch_of p index count = scope_of (child_of p index count)
-
-abbrev pub under : Seg → Option (List Seg × Seg) → Option (List Seg × Seg)
-under g None = Some ([], g)
-under g (Some x) = Some (g ∷ x.0, x.1)
-
--- a trail without its last segment, and that segment
-abbrev pub last_of : List Seg → Option (List Seg × Seg)
-last_of [] = None
-last_of (g ∷ t) = under g (last_of t)
-
-abbrev pub parent_in : ℕ → Option (List Seg × Seg) → Option Parent
-parent_in session None = None
-parent_in session (Some x) = Some (record { place = record { session = session; trail = x.0; hop = x.1.hop }; index = x.1.index; count = x.1.count })
-
--- the branch that a scope is, unless it is a session's own
-unfoldable pub parent_of : Scope → Option Parent
-parent_of s = parent_in s.session (last_of s.trail)
-
 -- ---------------------------------------------------------------- acts
 
 abbrev pub join_at : Option ℕ → Place → List Op
@@ -64,21 +42,11 @@ join_at None p = []
 join_at (Some f) p = op.Invoke (record { name = record { place = p; kind = kind.Join }; func = f }) ∷ []
 
 abbrev pub enter_at : (func : ℕ) → Place → (index count : ℕ) → Op
-enter_at f p index count = op.Invoke (record { name = name_at (branch_of p index count) 0 kind.Enter; func = f })
+enter_at f p index count = op.Invoke (record { name = name_at (child p index count) 0 kind.Enter; func = f })
 
 abbrev pub enters_at : Place → (index count : ℕ) → List Child → List Op
 enters_at p index count [] = []
 enters_at p index count (c ∷ cs) = enter_at c.func p index count ∷ enters_at p (suc index) count cs
-
-abbrev pub firsts : {A : Type 0} → ℕ → List A → List A
-firsts zero xs = []
-firsts (suc n) [] = []
-firsts (suc n) (x ∷ xs) = x ∷ firsts n xs
-
--- the branches that a fan invokes itself, where so many may run at once
-abbrev pub at_once : {A : Type 0} → ℕ → List A → List A
-at_once zero xs = xs
-at_once (suc w) xs = firsts (suc w) xs
 
 -- a fan without a branch invokes its Join at once
 abbrev pub fan_ops : (func width : ℕ) → Place → List Child → List Op
@@ -117,26 +85,9 @@ acts m i k = acts_of m i (stop_of m i k)
 
 -- ---------------------------------------------------------------- marks
 
-abbrev pub outs_of : Place → (index count left : ℕ) → List Obj
-outs_of p index count zero = []
-outs_of p index count (suc left) = obj.Out (branch_of p index count) ∷ outs_of p (suc index) count left
-
-abbrev pub bits_of : Place → (count : ℕ) → List Obj
-bits_of p zero = []
-bits_of p (suc k) = obj.Bits p (suc k) ∷ []
-
-abbrev pub due_enter : Name → Option Parent → List Obj
-due_enter n None = obj.Arg n ∷ obj.Check n ∷ []
-due_enter n (Some q) = obj.Check n ∷ []
-
-abbrev pub due_by : Name → (count : ℕ) → Kind → List Obj
-due_by n count kind.Enter = due_enter n (parent_of (scope_of n.place))
-due_by n count kind.Task = obj.Arg n ∷ obj.Check n ∷ []
-due_by n count kind.Join = outs_of n.place 0 count count ++ obj.Saved n.place ∷ (bits_of n.place count ++ obj.Check n ∷ [])
-
 -- what a finished instance marks: what it has read and no other reads, and its own checkpoint last
 unfoldable pub due : Name → (count : ℕ) → List Obj
-due n count = due_by n count n.kind
+due n count = model.due n count
 
 -- ---------------------------------------------------------------- what an attempt does
 
@@ -173,14 +124,14 @@ next_of m i a phase.Data = doing.Do (op.Look (source i.name))
 next_of m i a phase.Saved = doing.Do (op.Look (obj.Saved i.name.place))
 next_of m i a (phase.Outs count raw used outs) =
     cond (nat_lt (length outs) count)
-    (doing.Do (op.Look (obj.Out (branch_of i.name.place (length outs) count))))
+    (doing.Do (op.Look (obj.Out (child i.name.place (length outs) count))))
     (create_own i.name (kept_of raw used a (combine m i.func outs) count))
 next_of m i a (phase.Call raw used) = calling (call_of m i.func raw)
 next_of m i a (phase.Create k) = create_own i.name k
 next_of m i a (phase.Act k at) = doing_op (slice_get (acts m i k) at)
 next_of m i a (phase.Mark k at) = marking (slice_get (due i.name k.count) at)
-next_of m i a phase.Ack = doing.Do (op.Ack a)
-next_of m i a phase.Over = doing.Over
+next_of m i a (phase.Ack finished) = doing.Do (op.Ack a)
+next_of m i a (phase.Over finished) = doing.Over
 
 -- ---------------------------------------------------------------- the phase that follows
 
@@ -192,22 +143,17 @@ gathers _ = phase.Data
 -- a checkpoint that is there is adopted
 abbrev pub adopted : Held → Phase
 adopted (held.Check k) = phase.Act k 0
-adopted _ = phase.Ack
+adopted _ = phase.Ack false
 
 abbrev pub after_look : Kind → Reply → Phase
 after_look k reply.Absent = gathers k
 after_look k (reply.Live h) = adopted h
-after_look k _ = phase.Ack
+after_look k _ = phase.Ack false
 
 -- an Enter answers its data
 abbrev pub enters_with : (ticket : ℕ) → Option Json → Phase
 enters_with a (Some x) = phase.Create (kept_of json.Null [] a (Done x) 0)
 enters_with a None = phase.Look
-
--- a Task calls its function
-abbrev pub calls_with : Json → Used → Option (List ℕ × Json) → Phase
-calls_with raw used (Some c) = phase.Call raw used
-calls_with raw used None = phase.Look
 
 abbrev pub branch_input : Machine → Option ℕ → Option Parent → Json → Option Json
 branch_input m (Some j) (Some q) raw = input_of m j q.index raw
@@ -216,7 +162,7 @@ branch_input m _ _ raw = None
 abbrev pub read_as : Machine → Invocation → (ticket : ℕ) → Kind → Held → Phase
 read_as m i a kind.Enter (held.Arg raw used) = enters_with a (Some raw)
 read_as m i a kind.Enter (held.Saved count raw used) = enters_with a (branch_input m (join_around m i.func) (parent_of (scope_of i.name.place)) raw)
-read_as m i a kind.Task (held.Arg raw used) = calls_with raw used (call_of m i.func raw)
+read_as m i a kind.Task (held.Arg raw used) = phase.Call raw used
 read_as m i a _ _ = phase.Look
 
 -- what is gathered and not live sends the attempt back to Look
@@ -236,7 +182,7 @@ after_out count raw used outs _ = phase.Look
 abbrev pub after_create : Kept → Reply → Phase
 after_create k reply.Won = phase.Act k 0
 after_create k (reply.Had h) = adopted h
-after_create k _ = phase.Ack
+after_create k _ = phase.Ack false
 
 -- a Join looks at the next outcome, or creates its checkpoint once all are there
 abbrev pub after_outs : (count : ℕ) → Json → Used → List Outcome → Op → Reply → Phase
@@ -258,7 +204,7 @@ after_act k at more _ r = next_act k at more
 
 abbrev pub after_mark : Kept → (at : ℕ) → (more : Bool) → Phase
 after_mark k at true = phase.Mark k (at + 1)
-after_mark k at false = phase.Ack
+after_mark k at false = phase.Ack true
 
 -- whether another act, or another mark, follows the one of this phase
 abbrev pub has_more : Machine → Invocation → Phase → Bool
@@ -276,8 +222,8 @@ absorbed m i a more o (phase.Call raw used) r = phase.Call raw used
 absorbed m i a more o (phase.Create k) r = after_create k r
 absorbed m i a more o (phase.Act k at) r = after_act k at more o r
 absorbed m i a more o (phase.Mark k at) r = after_mark k at more
-absorbed m i a more o phase.Ack r = phase.Over
-absorbed m i a more o phase.Over r = phase.Over
+absorbed m i a more o (phase.Ack finished) r = phase.Over finished
+absorbed m i a more o (phase.Over finished) r = phase.Over finished
 
 -- the phase after the function's answer: the own checkpoint is to be made of it
 abbrev pub answered : (attempt : ℕ) → Outcome → Phase → Phase

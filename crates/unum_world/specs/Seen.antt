@@ -16,6 +16,8 @@ use Rattle.unum_world.specs.declared.queue.InvState.{InvState}
 use Rattle.unum_world.specs.declared.queue.AttState.{AttState}
 use Rattle.unum_world.specs.declared.refusal.ApplyError.{ApplyError}
 use Rattle.unum_world.specs.declared.refusal.ApplyError.TheVariants as refusal
+use Rattle.asl_model.specs.declared.machine.Machine.{Machine}
+use Rattle.unum_world.specs.Links.{IsChain}
 use Rattle.unum_world.specs.Worlds.{Objects, Queued, Holds, queued, perform, ticked, World, enabled, run, start}
 use Rattle.unum_world.specs.Plans.{allowed, pick}
 
@@ -118,11 +120,11 @@ pub record Bounded (n : ℕ) (w : World) : Type 0 where
   pub tries : (k : ℕ) (s : InvState) → slice_get w.hub.queue.states k ≡ Some s → s.tries ≤ n
   pub steps : (k : ℕ) (t : AttState) → slice_get w.hub.queue.atts k ≡ Some t → t.steps ≤ n
 
--- each session's machine is there, with at most 1,000 states; there are at most 1,000 sessions, and the limit is at most 10,000,000
+-- each session's machine is there, and each machine is a chain of at most 1,000 states; there are at most 1,000 sessions, and the limit is at most 10,000,000
 pub record Fits (o : Opening) (most : ℕ) : Type 0 where
   pub sessions : length o.sessions ≤ 1000
   pub machines : AllByRecursion (λ (s : Session). s.machine < length o.machines) o.sessions
-  pub states : AllByRecursion (λ m. length m.1.root.states ≤ 1000) o.machines
+  pub chains : AllByRecursion (λ (m : List ℕ × Machine). IsChain m.1) o.machines
   pub limit : most ≤ 10000000
 
 -- what the code of a world keeps: it is the run of its opening and history

@@ -1,83 +1,76 @@
--- Where the states that follow an answer stop, by the numbers of functions.
--- Amazon States Language, "Transitions": a state goes on to the one that its Next names, or ends its scope.
+-- What the numbers of functions stand for, and where the states that follow an answer stop, by these numbers.
 --
--- The machines are chains: function 0 is the Enter of the root, and function k + 1 the state with the number k by name.
--- A chain has no fan, so no function stands in a branch, and none is a Join.
-use Rattle.std.specs.Prelude.{ℕ, ◌-◌, ◌+◌, nat_lt, nat_eq, cond, List, [], slice_get, Option, Some, None, option_map, codes}
-use Rattle.unum_json.specs.declared.value.Json.{Json}
-use Rattle.unum_json.specs.declared.outcome.Fault.{Fault}
-use Rattle.unum_json.specs.declared.outcome.Outcome.{Outcome}
-use Rattle.unum_json.specs.declared.outcome.Outcome.TheVariants.{Done, Failed}
-use Rattle.asl_chain.specs.declared.machine.State.{State}
-use Rattle.asl_chain.specs.declared.machine.State.TheVariants.{Task, Succeed}
-use Rattle.asl_chain.specs.declared.machine.Machine.{Machine}
-use Rattle.asl_chain.specs.Chains.{find}
+-- Function 0 is the Enter of the root, and function k + 1 the Task with the number k by name. These are the numbers of chains,
+-- which have no block but the root, and stop at no fan.
+use Rattle.std.specs.Prelude.{ℕ, suc, ◌-◌, ◌+◌, nat_eq, cond, List, [], ◌∷◌, slice_get, Option, Some, None}
+use Rattle.std.specs.Str.{bytes_eq}
+use Rattle.asl_model.specs.declared.machine.Machine.{Machine}
+use Rattle.asl_model.specs.Data as values
+use Rattle.asl_model.specs.Data.{Text, Json, Outcome}
+use Rattle.asl_model.specs.Tree.{tree_of}
+use Rattle.asl_model.specs.Stretch as model
+use Rattle.world_model.specs.Operations.{Spot, OnEnter, OnTask, visited_at, Site}
+use Rattle.world_model.specs.Acts.{rules}
+use Rattle.world_model.specs.Program as program
 use Rattle.unum_world.specs.declared.stops.Stop.{Stop}
-use Rattle.unum_world.specs.declared.stops.Stop.TheVariants.{Call, End}
+use Rattle.unum_world.specs.declared.stops.Stop.TheVariants.{Call, Fan, End}
 
 -- how often each retrier of a state was taken
 abbrev pub Used : Type 0
 Used = List ℕ
 
--- a scope enters so many states at most
-abbrev pub hop_limit : ℕ
-hop_limit = 2000
+-- ---------------------------------------------------------------- numbers
 
-abbrev pub limit_fault : List ℕ → Fault
-limit_fault name = record { error = codes "Unum.HopLimit"; cause = name }
+-- the number of the state of that name among a block's states, which are counted from k on
+unfoldable pub find_from : {S : Type 0} → ℕ → Text → List (Text × S) → Option ℕ
+find_from k name [] = None
+find_from k name (s ∷ rest) = cond (bytes_eq s.0 name) (Some k) (find_from (suc k) name rest)
 
--- a state that is not there: no valid machine leads to one
-abbrev pub missing_fault : List ℕ → Fault
-missing_fault name = record { error = codes "Unum.NoState"; cause = name }
+abbrev pub find : {S : Type 0} → Text → List (Text × S) → Option ℕ
+find name states = find_from 0 name states
 
-abbrev pub stop_at : (func hop : ℕ) → Json → State → Stop
-stop_at func hop raw (Task resource after) = Call func hop raw []
-stop_at func hop raw Succeed = End (Done raw)
+abbrev pub number_in : Option ℕ → ℕ
+number_in None = 0
+number_in (Some k) = k + 1
 
-abbrev pub stop_in : List ℕ → (hop : ℕ) → Json → (number : ℕ) → Option (List ℕ × State) → Stop
-stop_in name hop raw k None = End (Failed (missing_fault name))
-stop_in name hop raw k (Some s) = stop_at (k + 1) hop raw s.1
+-- the function of the Task of that name
+abbrev pub number_of : Machine → Text → ℕ
+number_of m name = number_in (find name m.root.states)
 
-abbrev pub stop_found : Machine → List ℕ → (hop : ℕ) → Json → Option ℕ → Stop
-stop_found m name hop raw None = End (Failed (missing_fault name))
-stop_found m name hop raw (Some k) = stop_in name hop raw k (slice_get m.root.states k)
+abbrev pub name_in : {S : Type 0} → Option (Text × S) → Option Text
+name_in None = None
+name_in (Some s) = Some s.0
 
--- where it stops once the state of that name is entered at that hop
-abbrev pub stretch : Machine → List ℕ → (hop : ℕ) → Json → Stop
-stretch m name hop raw = cond (nat_lt hop hop_limit) (stop_found m name hop raw (find name m.root.states)) (End (Failed (limit_fault name)))
+-- the name of the Task of that function
+abbrev pub task_name : Machine → (func : ℕ) → Option Text
+task_name m func = cond (nat_eq func 0) None (name_in (slice_get m.root.states (func - 1)))
 
-abbrev pub go_on : Machine → (hop : ℕ) → Json → Option (List ℕ) → Stop
-go_on m hop x (Some name) = stretch m name (hop + 1) x
-go_on m hop x None = End (Done x)
+abbrev pub spot_by : Option Text → Spot
+spot_by None = OnEnter
+spot_by (Some name) = OnTask name
 
-abbrev pub after_state : Machine → (hop : ℕ) → Json → State → Stop
-after_state m hop x (Task resource after) = go_on m hop x after.next
-after_state m hop x Succeed = End (Done x)
+-- what the function of that number visits
+abbrev pub spot_of : Machine → (func : ℕ) → Spot
+spot_of m func = spot_by (task_name m func)
 
--- the state with that number by name
-abbrev pub state_at : Machine → (number : ℕ) → Option State
-state_at m k = option_map (λ s. s.1) (slice_get m.root.states k)
+-- what the function of that number runs
+abbrev pub site_of : Machine → (func : ℕ) → Site
+site_of m func = record { block = tree_of m; around = []; spot = spot_of m func }
 
-abbrev pub after_named : Machine → (hop : ℕ) → Json → Option State → Stop
-after_named m hop x None = End (Done x)
-after_named m hop x (Some s) = after_state m hop x s
+-- ---------------------------------------------------------------- stops and calls
+
+abbrev pub by_number : Machine → model.Stop → Stop
+by_number m (model.Call name hop raw used) = Call (number_of m name) hop raw used
+by_number m (model.Fan name hop raw used cs) = Fan (number_of m name) hop raw [] used
+by_number m (model.Over o) = End o
 
 -- where it stops after the answer of that function at that hop, to that raw data and used list
 unfoldable pub after : Machine → (func hop : ℕ) → (raw : Json) → Used → Outcome → Stop
-after m func hop raw used (Failed f) = End (Failed f)
-after m func hop raw used (Done x) = cond (nat_eq func 0) (stretch m m.root.start 0 x) (after_named m hop x (state_at m (func - 1)))
-
-abbrev pub resource_in : Option State → Option (List ℕ)
-resource_in (Some (Task resource after)) = Some resource
-resource_in _ = None
-
--- the resource that the Task of a function calls
-abbrev pub resource_at : Machine → (func : ℕ) → Option (List ℕ)
-resource_at m func = cond (nat_eq func 0) None (resource_in (state_at m (func - 1)))
+after m func hop raw used o = by_number m (model.after rules (tree_of m) (visited_at (spot_of m func)) hop raw used o)
 
 -- what the Task of that function calls on that raw data: its resource, and the effective input
-abbrev pub call_of : Machine → (func : ℕ) → (raw : Json) → Option (List ℕ × Json)
-call_of m func raw = option_map (λ r. (r, raw)) (resource_at m func)
+unfoldable pub call_of : Machine → (func : ℕ) → (raw : Json) → Option (Text × Json)
+call_of m func raw = program.call_of (site_of m func) raw
 
 -- the Join of the fan around the scope of a function
 abbrev pub join_around : Machine → (func : ℕ) → Option ℕ
@@ -93,4 +86,4 @@ input_of m func index raw = None
 
 -- what the outcomes of a fan's branches come to, by the fan with that Join
 abbrev pub combine : Machine → (func : ℕ) → List Outcome → Outcome
-combine m func outs = Failed (missing_fault [])
+combine m func outs = values.combine (program.state_at (spot_of m func)) outs

@@ -5,11 +5,12 @@ use Rattle.unum_json.specs.Keys.{find_key}
 use Rattle.place_name.specs.declared.kind.Kind.TheVariants as kind
 use Rattle.place_name.specs.declared.obj.Obj.{Obj}
 use Rattle.place_name.specs.declared.obj.Obj.TheVariants as obj
-use Rattle.place_name.specs.Names.{Scope, Name}
+use Rattle.place_name.specs.Names.{Name}
 use Rattle.place_name.specs.Same.{object_same}
 use Rattle.fn_table.specs.declared.kind.FnKind.{FnKind}
 use Rattle.fn_table.specs.Answers.{answer, Asked}
-use Rattle.asl_chain.specs.declared.machine.Machine.{Machine}
+use Rattle.asl_model.specs.declared.machine.Machine.{Machine}
+use Rattle.world_model.specs.Operations.{name_at, root}
 use Rattle.unum_world.specs.declared.held.Held.{Held}
 use Rattle.unum_world.specs.declared.held.Held.TheVariants as held
 use Rattle.unum_world.specs.declared.held.Slot.{Slot}
@@ -31,7 +32,7 @@ use Rattle.unum_world.specs.declared.phase.Phase.TheVariants as phase
 use Rattle.unum_world.specs.declared.phase.Next.{Next}
 use Rattle.unum_world.specs.declared.phase.Next.TheVariants as doing
 use Rattle.unum_world.specs.declared.planned.PlannedStep.{PlannedStep}
-use Rattle.unum_world.specs.Program.{name_at, next_of, absorbed, answered, has_more, is_do, is_call, next_takes_memory}
+use Rattle.unum_world.specs.Program.{next_of, absorbed, answered, has_more, is_do, is_call, next_takes_memory}
 
 -- what an object is: nothing where it is absent
 abbrev pub Objects : Type 0
@@ -55,9 +56,6 @@ pub record World : Type 0 where
   pub marks : ℕ
 
 -- ---------------------------------------------------------------- names and invocations at the opening
-
-abbrev pub root : (session : ℕ) → Scope
-root s = record { session = s; trail = [] }
 
 -- the instance that a session begins with
 abbrev pub root_name : (session : ℕ) → Name

@@ -10,8 +10,7 @@ use crate::operation::{Op, Reply};
 use crate::phase::Phase;
 use crate::planned::PlannedStep;
 use crate::queue::Invocation;
-use crate::walking::resource_of;
-use asl_chain::Machine;
+use asl_model::Machine;
 use place_name::Kind;
 use std::alloc::Global;
 use std::mem;
@@ -25,7 +24,7 @@ fn adopt(held: Held) -> Phase
         Held::Check(kept) => Phase::Act { kept, at: 0 },
         other => {
             drop_held(other);
-            Phase::Ack
+            Phase::Ack { finished: false }
         }
     }
 }
@@ -42,7 +41,7 @@ fn looked(kind: Kind, reply: Reply) -> Phase
         Reply::Live(held) => adopt(held),
         other => {
             drop_reply(other);
-            Phase::Ack
+            Phase::Ack { finished: false }
         }
     }
 }
@@ -62,13 +61,7 @@ fn found(alloc: Global, m: &Machine, i: &Invocation, attempt: u32, held: Held) -
                 count: 0,
             })
         }
-        (Kind::Task, Held::Arg { raw, used }) => match resource_of(m, i.func) {
-            Some(_) => Phase::Call { raw, used },
-            None => {
-                drop_held(Held::Arg { raw, used });
-                Phase::Look
-            }
-        },
+        (Kind::Task, Held::Arg { raw, used }) => Phase::Call { raw, used },
         (_, other) => {
             drop_held(other);
             Phase::Look
@@ -102,7 +95,7 @@ fn created(kept: Kept, reply: Reply) -> Phase
         other => {
             drop_kept(kept);
             drop_reply(other);
-            Phase::Ack
+            Phase::Ack { finished: false }
         }
     }
 }
@@ -128,7 +121,7 @@ fn marked(kept: Kept, at: u32, more: bool) -> Phase
         Phase::Mark { kept, at: at + 1 }
     } else {
         drop_kept(kept);
-        Phase::Ack
+        Phase::Ack { finished: true }
     }
 }
 
@@ -166,13 +159,13 @@ fn absorb(
             drop_reply(reply);
             Phase::Call { raw, used }
         }
-        Phase::Ack => {
+        Phase::Ack { finished } => {
             drop_reply(reply);
-            Phase::Over
+            Phase::Over { finished }
         }
-        Phase::Over => {
+        Phase::Over { finished } => {
             drop_reply(reply);
-            Phase::Over
+            Phase::Over { finished }
         }
     }
 }
@@ -194,9 +187,9 @@ pub fn absorb_at(
     let at = attempt as usize;
     if at < phases.len() {
         let phase = &mut phases[at];
-        let old = mem::replace(phase, Phase::Over);
-        let over = mem::replace(phase, absorb(alloc, m, i, attempt, step, old, reply));
-        drop_phase(over);
+        let old = mem::replace(phase, Phase::Look);
+        let moved = mem::replace(phase, absorb(alloc, m, i, attempt, step, old, reply));
+        drop_phase(moved);
     } else {
         drop_reply(reply);
     }
@@ -227,9 +220,9 @@ pub fn answer_at(phases: &mut Vec<Phase>, attempt: u32, outcome: Outcome)
     let at = attempt as usize;
     if at < phases.len() {
         let phase = &mut phases[at];
-        let old = mem::replace(phase, Phase::Over);
-        let over = mem::replace(phase, answer_in(attempt, old, outcome));
-        drop_phase(over);
+        let old = mem::replace(phase, Phase::Look);
+        let moved = mem::replace(phase, answer_in(attempt, old, outcome));
+        drop_phase(moved);
     } else {
         drop_outcome(outcome);
     }

@@ -2,6 +2,7 @@
 #![tactic(auto)]
 
 mod absorbing;
+mod chains;
 mod choosing;
 mod codes;
 mod compare;
@@ -38,6 +39,7 @@ mod tests;
 mod walking;
 mod world;
 
+pub use chains::{succeed, task};
 pub use held::{Held, Kept, Slot, Used};
 pub use hub::{Hub, Store};
 pub use moment::{Entry, Moment};

@@ -1,5 +1,5 @@
 use crate::planning::Plan;
-use asl_chain::Machine;
+use asl_model::Machine;
 use fn_table::Table;
 use unum_json::{Fields, Items, Json};
 

@@ -2,6 +2,7 @@ ghost use Rattle.std.specs.Prelude.{◌≡◌, ◌↔◌, Some, IsTrue, option_m
 ghost use Rattle.fn_table.specs.Answers.{Asked};
 ghost use Rattle.unum_world.specs.Program.{next_of};
 ghost use Rattle.unum_world.specs.Worlds.{asked, asked_by};
+ghost use Rattle.unum_world.specs.Links.{IsChain};
 ghost use Rattle.unum_world.specs.Seen.{seen};
 ghost use Rattle.unum_world.specs.Plain.{IsPlain, IsPlainPhase};
 ghost use Rattle.unum_world.specs.Answers.{asks};
@@ -14,7 +15,7 @@ use crate::phase::Phase;
 use crate::queue::Invocation;
 use crate::steps::machine_of;
 use crate::walking::resource_of;
-use asl_chain::Machine;
+use asl_model::Machine;
 use fn_table::{Answered, FnKind, same_kind};
 use unum_json::{Json, same};
 
@@ -27,18 +28,20 @@ fn pending_at<'a>(
     attempt: u32,
     phase: &'a Phase,
 ) -> Option<(&'a FnKind, &'a Json)>
-    requires { IsPlainPhase m.now i.now phase.now }
+    requires chain { IsChain m.now }
+    requires phase { IsPlainPhase m.now i.now phase.now }
     ensures { option_map (λ p. asks p.0.now p.1.now attempt) result ≡ asked_by o.now attempt (next_of m.now i.now attempt phase.now) }
 {
     let Phase::Call { raw, used: _ } = phase else {
         return None;
     };
-    let resource = resource_of(m, i.func)?;
+    let resource = resource_of(m, i.func, raw)?;
     let kind = o.table.find(resource.as_bytes())?;
     Some((kind, raw))
 }
 
 /// The function and the input that an attempt waits for.
+#[tactic(auto, using(crate::proofs::Plain::chain_at))]
 pub fn pending<'a>(o: &'a Opening, now: &'a Moment, attempt: u32) -> Option<(&'a FnKind, &'a Json)>
     requires { IsPlain (seen o.now now.now) }
     ensures { option_map (λ p. asks p.0.now p.1.now attempt) result ≡ asked (seen o.now now.now) attempt }

@@ -35,10 +35,14 @@ pub enum Phase {
         kept: Kept,
         at: u32,
     },
-    /// Ack.
-    Ack,
+    /// Ack: whether the attempt came through its own acts and marks, or met a tombstone.
+    Ack {
+        finished: bool,
+    },
     /// The attempt is over.
-    Over,
+    Over {
+        finished: bool,
+    },
 }
 
 /// What an attempt does next.

@@ -1,5 +1,6 @@
 ghost use Rattle.std.specs.Prelude.{◌≡◌, ◌<◌, ◌≤◌, ◌+◌, [], ◌∷◌, length, slice_get, IfOk, OnErr, IsTrue, IfSome};
 ghost use Rattle.unum_world.specs.Program.{due, next_of, next_takes_memory, is_do, is_call, source};
+ghost use Rattle.unum_world.specs.Links.{IsChain};
 ghost use Rattle.unum_world.specs.Worlds.{planned_by};
 ghost use Rattle.unum_world.specs.Plain.{IsPlainName, IsPlainPhase, IsPlainOp, IsPlainStop, IsFirstOf, plain_acts, planned_at};
 
@@ -13,7 +14,7 @@ use crate::planned::PlannedStep;
 use crate::queue::Invocation;
 use crate::stops::Stop;
 use crate::walking::resume;
-use asl_chain::Machine;
+use asl_model::Machine;
 use place_name::{Kind, Name, Obj, Place, Scope};
 use std::alloc::Global;
 use unum_json::NoMemory;
@@ -121,7 +122,7 @@ pub fn plan(
     attempt: u32,
     phase: &Phase,
 ) -> Result<Option<PlannedStep>, NoMemory>
-    requires states { length m.now.root.states ≤ 1000 }
+    requires chain { IsChain m.now }
     requires name { IsPlainName i.now.name }
     requires phase { IsPlainPhase m.now i.now phase.now }
     ensures step { IfOk result (λ p. p ≡ planned_by m.now i.now phase.now (next_of m.now i.now attempt phase.now)) }
@@ -142,9 +143,9 @@ pub fn plan(
             Ok(act_of(&i.name, stop, *at))
         }
         Phase::Mark { kept: _, at } => Ok(mark_step(&i.name, *at)),
-        Phase::Ack => Ok(planned(Op::Ack(attempt), false)),
+        Phase::Ack { .. } => Ok(planned(Op::Ack(attempt), false)),
         Phase::Call { .. } => Ok(None),
-        Phase::Over => Ok(None),
+        Phase::Over { .. } => Ok(None),
         Phase::Saved => unreachable!(),
         Phase::Outs { .. } => unreachable!(),
     }
@@ -156,7 +157,7 @@ pub fn at_operation(m: &Machine, i: &Invocation, attempt: u32, phase: &Phase) ->
     requires { IsPlainPhase m.now i.now phase.now }
     ensures { result ≡ is_do (next_of m.now i.now attempt phase.now) }
 {
-    !matches!(phase, Phase::Call { .. } | Phase::Over)
+    !matches!(phase, Phase::Call { .. } | Phase::Over { .. })
 }
 
 /// Whether an attempt at that phase has a call before it.

@@ -19,11 +19,12 @@ pub struct Planned {
 impl Model for Planned {
     ghost use Rattle.unum_world.specs.Seen.{Past, begun, IsChosen};
     ghost use Rattle.unum_json.specs.contracts.value.Json as json;
+    ghost use Rattle.asl_model.specs.contracts.machine.Block as block;
     ghost use Rattle.std.specs.Coded.{codes};
 
     ghost Value = { Past };
 
-    ghost coded = { Prim.hlevel (codes, json.the_row.coded) };
+    ghost coded = { Prim.hlevel (codes, json.the_row.coded, block.the_row.coded) };
 
     ghost view = { λ p. p.world };
 

@@ -4,6 +4,7 @@ ghost use Rattle.std.specs.Option.{option_copied};
 ghost use Rattle.fn_table.specs.Answers.{answer};
 ghost use Rattle.unum_world.specs.Program.{takes_memory, next_of};
 ghost use Rattle.unum_world.specs.Worlds.{reply_to, entry_of, is_won, won_if, carried, effect, asked, asked_by, enabled, step_takes_memory, machine_of, one_mark};
+ghost use Rattle.unum_world.specs.Links.{IsChain};
 ghost use Rattle.unum_world.specs.Seen.{seen, holds_of, operated, HasStep};
 ghost use Rattle.unum_world.specs.Plain.{IsPlain, IsPlainOp, IsPlainPhase, IsFirstOf};
 ghost use Rattle.unum_world.specs.declared.phase.Phase.{Phase};
@@ -24,7 +25,7 @@ use crate::planned::PlannedStep;
 use crate::program::plan;
 use crate::queue::{Invocation, QueueError};
 use crate::walking::resource_of;
-use asl_chain::Machine;
+use asl_model::Machine;
 use fn_table::call;
 use place_name::Obj;
 use std::alloc::Global;
@@ -199,6 +200,7 @@ pub fn step(alloc: Global, o: &Opening, now: &mut Moment, attempt: u32) -> Resul
 }
 
 /// What an attempt's function answers, where it waits for one.
+#[tactic(auto, using(crate::proofs::Plain::chain_at))]
 pub fn called(
     alloc: Global,
     o: &Opening,
@@ -233,13 +235,14 @@ fn outcome_at(
     attempt: u32,
     phase: &Phase,
 ) -> Result<Option<Outcome>, NoMemory>
-    requires { IsPlainPhase m.now i.now phase.now }
+    requires chain { IsChain m.now }
+    requires phase { IsPlainPhase m.now i.now phase.now }
     ensures { IfOk result (λ x. x ≡ option_map (λ q. answer q.kind q.input q.ticket) (asked_by o.now attempt (next_of m.now i.now attempt phase.now))) }
 {
     let Phase::Call { raw, used: _ } = phase else {
         return Ok(None);
     };
-    let Some(resource) = resource_of(m, i.func) else {
+    let Some(resource) = resource_of(m, i.func, raw) else {
         return Ok(None);
     };
     let Some(kind) = o.table.find(resource.as_bytes()) else {

@@ -1,11 +1,12 @@
-ghost use Rattle.std.specs.Prelude.{◌≤◌, IfOk, length};
+ghost use Rattle.std.specs.Prelude.{◌≤◌, IfOk};
+ghost use Rattle.unum_world.specs.Links.{IsChain};
 ghost use Rattle.unum_world.specs.Seen.{Fits};
 
 use crate::{
     ApplyError, Entry, Event, Mishap, Opening, Plan, Planned, Session, SessionState, Settled,
-    Totals, World,
+    Totals, World, task,
 };
-use asl_chain::{After, Block, Machine, State};
+use asl_model::{After, Block, Machine};
 use fn_table::{BuiltIns, FnKind, Functions, Table};
 use std::alloc::Global;
 use std::test::Fail;
@@ -13,7 +14,7 @@ use unum_json::{Fields, Items, Json, NoMemory, Outcome, Text};
 
 /// A machine of one Task, which calls an echo.
 fn one_task(alloc: Global) -> Result<Machine, NoMemory>
-    ensures { IfOk result (λ m. length m.root.states ≤ 1000) }
+    ensures { IfOk result (λ m. IsChain m) }
 {
     let mut states = Fields::new(alloc);
     let after = After {
@@ -21,7 +22,7 @@ fn one_task(alloc: Global) -> Result<Machine, NoMemory>
         end: true,
     };
     let resource = Text::from_str(alloc, "f")?;
-    states.push(Text::from_str(alloc, "A")?, State::Task { resource, after })?;
+    states.push(Text::from_str(alloc, "A")?, task(alloc, resource, after))?;
     let start = Text::from_str(alloc, "A")?;
     Ok(Machine {
         root: Block { start, states },

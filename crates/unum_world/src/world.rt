@@ -4,8 +4,8 @@ ghost use Rattle.unum_world.specs.Worlds.{enabled, event_takes_memory, asked};
 ghost use Rattle.unum_world.specs.Sessions.{session_of, totals_of};
 ghost use Rattle.unum_world.specs.Answers.{IsStanding, WhyAnswer};
 ghost use Rattle.unum_world.specs.Seen.{Why, now, after_event, is_enabled, chosen_event, Fits};
-ghost use Rattle.unum_world.specs.Journals.{Distinct};
 ghost use Rattle.unum_world.specs.Chained.{IsDrained};
+ghost use Rattle.unum_world.specs.Sound.{IsSound};
 ghost use Rattle.unum_world.specs.Plans.{pick};
 
 use crate::choosing::allowed;
@@ -36,12 +36,13 @@ pub struct World {
 impl Model for World {
     ghost use Rattle.unum_world.specs.Seen.{Past, Stands};
     ghost use Rattle.unum_json.specs.contracts.value.Json as json;
+    ghost use Rattle.asl_model.specs.contracts.machine.Block as block;
     ghost use Rattle.std.specs.Coded.{codes};
     ghost use Rattle.std.specs.Vec.{vec_capacity};
 
     ghost Value = { Past };
 
-    ghost coded = { Prim.hlevel (codes, json.the_row.coded) };
+    ghost coded = { Prim.hlevel (codes, json.the_row.coded, block.the_row.coded) };
 
     ghost view = { λ w. record { opening = w.opening; limit = w.limit; history = w.history.items } };
 
@@ -50,10 +51,12 @@ impl Model for World {
 
 impl World {
     /// A world that begins so, with room for `limit` events. The limit is at most 10,000,000, there are at most 1,000
-    /// sessions, each session's machine is there, and a machine has at most 1,000 states.
+    /// sessions, each session's machine is there, and each machine is a chain: its states are at most 1,000 Tasks and
+    /// Succeeds with no data flow of their own, no retriers and no catchers.
     pub fn open(alloc: Global, opening: Opening, limit: u64) -> Result<World, NoMemory>
         requires { Fits opening limit }
-        ensures { IfOk result (λ w. w ≡ record { opening = opening; limit = limit; history = [] }) }
+        ensures begun { IfOk result (λ w. w ≡ record { opening = opening; limit = limit; history = [] }) }
+        ensures sound { IfOk result (λ w. IsSound w) }
     {
         let history = Vec::with_capacity(alloc, limit as usize)?;
         let hub = first_hub(alloc, opening.sessions.as_slice())?;
@@ -63,12 +66,14 @@ impl World {
             journal: Vec::new(alloc),
             marks: 0,
         };
-        Ok(World {
+        let world = World {
             opening,
             limit,
             moment,
             history,
-        })
+        };
+        world.is_sound();
+        Ok(world)
     }
 
     /// How many events the history has.
@@ -131,9 +136,11 @@ impl World {
         may(&self.opening, &self.moment, e)
     }
 
-    /// No two entries of the journal have one name.
-    pub fn names_differ(&self)
-        ensures { Distinct (now self.now).journal }
+    /// What holds of every world: each checkpoint belongs to one central run of its session, in which each visit of a task
+    /// answers at most once, with the checkpoint that won; each ended session has that run's outcome; nothing is collected
+    /// that is still to be read; and fans keep to their limits.
+    pub fn is_sound(&self)
+        ensures { IsSound self.now }
     {
         let _ = &self.limit;
     }
@@ -149,10 +156,10 @@ impl World {
         ensures spent { (result ≡ Err (ApplyError.Spent (length self.old.history))) ↔ (IsTrue (is_enabled self.old e) × (self.old.limit ≤ length self.old.history)) }
         ensures why { Why self.old e result }
         ensures memory { (result ≡ Err ApplyError.NoMemory) → IsTrue (event_takes_memory (now self.old) e) }
-        ensures distinct { Distinct (now self.new).journal }
+        ensures sound { IsSound self.new }
     {
         let answer = self.try_event(alloc, e);
-        self.names_differ();
+        self.is_sound();
         answer
     }
 
@@ -162,11 +169,11 @@ impl World {
         ensures ok { OnOk result (self.new ≡ after_event self.old (Event.Answer done.now.ticket)) }
         ensures err { OnErr result (self.new ≡ self.old) }
         ensures why { WhyAnswer self.old done.now result }
-        ensures distinct { Distinct (now self.new).journal }
+        ensures sound { IsSound self.new }
     {
         let event = Event::Answer(done.ticket());
         if !self.is_asked(done) {
-            self.names_differ();
+            self.is_sound();
             return Err(ApplyError::NotEnabled { event });
         }
         self.apply(alloc, event)

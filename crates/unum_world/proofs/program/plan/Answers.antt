@@ -12,7 +12,7 @@ pub returns-in_err-stop-in-Act-clause-memory : goal.returns-in_err-stop-in-Act-c
 unfolding next_of
 returns-in_err-stop-in-Act-clause-memory c =
     let P : Phase → Type 0 = λ ph. IsTrue (next_takes_memory (next_of c.args.m.now c.args.i.now c.args.attempt ph)) in
-    on_err c.from_residual-in_err-stop-in-Act.result (subst P (sym c.in-Act.is) (act_memory c.args.m.now c.args.i.now c.in-Act.kept c.in-Act.at c.requires.name.trail))
+    on_err c.from_residual-in_err-stop-in-Act.result (subst P (sym c.in-Act.is) (act_memory c.args.m.now c.requires.chain c.args.i.now c.in-Act.kept c.in-Act.at c.requires.name.trail))
 
 pub returns-in_ok-stop-in-Act-clause-step : goal.returns-in_ok-stop-in-Act-clause-step
 unfolding next_of

@@ -6,8 +6,14 @@ use Rattle.unum_world.specs.Worlds.{machine_of, effect}
 use Rattle.unum_world.specs.Chained.{Placed}
 use Rattle.unum_world.specs.Plain.{IsPlainPhase, IsFirstOf}
 use Rattle.unum_world.specs.Seen.{seen, queue_of}
+use Rattle.unum_world.proofs.Plain.{chain_at}
 use Rattle.unum_world.proofs.Placing.{on_err, ok_map, err_map, steps_none, steps_some, memory_of, memory_some}
 use Rattle.unum_world.proofs.steps.step.Goals as goal
+
+pub plan-requires-clause-chain : goal.plan-requires-clause-chain
+plan-requires-clause-chain c =
+    let e4 : machine_of c.args.o.now c.in-Some-invocation_at.i.name.place.session ≡ Some c.in-Some-machine_of.m.now = search rules in
+    chain_at c.args.o.now c.in-Some-invocation_at.i.name.place.session c.in-Some-machine_of.m.now c.requires.plain.chains e4
 
 pub plan-requires-clause-name : goal.plan-requires-clause-name
 plan-requires-clause-name c =

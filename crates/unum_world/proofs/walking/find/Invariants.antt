@@ -1,5 +1,5 @@
 use Rattle.std.proofs.Common.{◌≡◌, drop}
-use Rattle.asl_chain.specs.Chains.{find_from}
+use Rattle.unum_world.specs.Stretch.{find_from}
 use Rattle.unum_world.proofs.walking.find.Given as goal
 
 abbrev pub invariant-loop-i : goal.invariant-loop-i

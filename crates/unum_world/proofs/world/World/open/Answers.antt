@@ -6,8 +6,8 @@ use Rattle.unum_world.specs.Seen.{holds_of}
 use Rattle.unum_world.proofs.Worldly.{started}
 use Rattle.unum_world.proofs.world.World.open.Goals as goal
 
-pub invariant_of-result : goal.invariant_of-result
-invariant_of-result c =
+pub invariant_of-world : goal.invariant_of-world
+invariant_of-world c =
     let o : Opening = c.args.opening in
     let h : c.in_ok-history.history.items ≡ [] = c.in_ok-history.ensures.items in
     let P : List Session → Type 0 = λ xs. holds_of c.in_ok-hub.hub ≡ start_hub xs in

@@ -1,0 +1,81 @@
+-- Each run of an opening that fits is a run of the model's world, so what holds of that holds of it.
+use Rattle.std.proofs.Common.{ℕ, ◌≡◌, refl, sym, ap, ◌∙◌, subst, Bool, true, false, cond, List, [], ◌∷◌, map, slice_get, Option, Some, None, option_map}
+use Rattle.std.specs.Prelude.{IsSome}
+use Rattle.asl_model.specs.Data.{Text, Json}
+use Rattle.asl_model.specs.declared.machine.Machine.{Machine}
+use Rattle.world_model.specs.Operations as model
+use Rattle.world_model.specs.Program as program
+use Rattle.world_model.specs.World as worlds
+use Rattle.world_model.specs.Agrees.{Agrees}
+use Rattle.world_model.specs.Collecting.{Takes_nothing_early}
+use Rattle.world_model.specs.Paced.{Keeps_pace}
+use Rattle.world_model.specs.Asking.{Is_calling}
+use Rattle.world_model.proofs.Every.{every_run_agrees}
+use Rattle.world_model.proofs.Finishes.{every_run_takes_nothing_early}
+use Rattle.world_model.proofs.Pace.{every_run_keeps_pace}
+use Rattle.world_model.proofs.Asks.{every_call_is_one}
+use Rattle.unum_world.specs.declared.opening.Opening.{Opening}
+use Rattle.unum_world.specs.declared.phase.Phase.{Phase}
+use Rattle.unum_world.specs.declared.phase.Phase.TheVariants as phase
+use Rattle.unum_world.specs.declared.queue.Invocation.{Invocation}
+use Rattle.unum_world.specs.declared.queue.AttState.{AttState}
+use Rattle.unum_world.specs.declared.queue.Event.{Event}
+use Rattle.unum_world.specs.Stretch.{Used, site_of, call_of}
+use Rattle.unum_world.specs.Worlds.{World, enabled, effect, run_from, run, start}
+use Rattle.unum_world.specs.Plain.{IsPlainPhase}
+use Rattle.unum_world.specs.Seen.{Past, now, Fits}
+use Rattle.unum_world.specs.Sound.{IsSound}
+use Rattle.unum_world.specs.Chained.{Placed, Chained}
+use Rattle.unum_world.specs.Sited.{opening_as, invocation_as, attempt_as, phase_as, event_as, sited}
+use Rattle.unum_world.proofs.Runs.{run_none}
+use Rattle.unum_world.proofs.Choices.{now_run}
+use Rattle.unum_world.proofs.Chained.{chained_start, chained_effect, run_chained}
+use Rattle.unum_world.proofs.SitedPhases.{here, found_site}
+use Rattle.unum_world.proofs.SitedStart.{start_as}
+use Rattle.unum_world.proofs.SitedSteps.{effect_as, enabled_as}
+use Rattle.unum_world.proofs.Zips.{zip_get}
+
+next_as : (w : World) (x : Event) → Chained w → enabled w x ≡ true → worlds.then_event (Some (sited w)) (event_as x) ≡ Some (sited (effect w x))
+next_as w x C b =
+    ap (λ (t : Bool). cond t (Some (worlds.effect (sited w) (event_as x))) None) (sym (enabled_as w x C) ∙ b)
+    ∙ ap Some (sym (effect_as w x C b))
+
+from_as : (es : List Event) (w v : World) → Chained w → run_from (Some w) es ≡ Some v → worlds.run_from (Some (sited w)) (map event_as es) ≡ Some (sited v)
+unfolding run_from worlds.run_from
+from_as [] w v C e = ap (option_map sited) e
+from_as (x ∷ es) w v C e = go (λ q. from_as es (effect w x) v (chained_effect w x C) q) (enabled w x) refl e
+  where
+    go : (run_from (Some (effect w x)) es ≡ Some v → worlds.run_from (Some (sited (effect w x))) (map event_as es) ≡ Some (sited v)) →
+        (b : Bool) → enabled w x ≡ b → run_from (cond b (Some (effect w x)) None) es ≡ Some v → worlds.run_from (worlds.then_event (Some (sited w)) (event_as x)) (map event_as es) ≡ Some (sited v)
+    go r true b q = ap (λ (z : Option worlds.World). worlds.run_from z (map event_as es)) (next_as w x C b) ∙ r q
+    go r false b q = absurd (run_none es v q)
+
+pub run_as : (o : Opening) (most : ℕ) (es : List Event) (w : World) → Fits o most → run o es ≡ Some w → worlds.run (opening_as o) (map event_as es) ≡ Some (sited w)
+run_as o most es w F e =
+    ap (λ (z : worlds.World). worlds.run_from (Some z) (map event_as es)) (sym (start_as o)) ∙ from_as es (start o) w (chained_start o most F) e
+
+-- an attempt at its call has one
+pub run_calls : (o : Opening) (most : ℕ) (es : List Event) (w : World) → Fits o most → run o es ≡ Some w → (a : ℕ) (m : Machine) (t : AttState) (i : Invocation) (ph : Phase) →
+    Placed w.opening w.hub.queue w.phases a m t i ph → (raw : Json) (used : Used) → ph ≡ phase.Call raw used → IsPlainPhase m i ph
+unfolding sited call_of
+run_calls o most es w F e a m t i ph p raw used q =
+    let found = found_site w.opening w.hub.queue.invs t.inv m i p.invocation p.machine in
+    let calls : Is_calling (sited w) a (here m i) raw used =
+    record { attempt = attempt_as t ph; attempt_is = zip_get w.hub.queue.atts w.phases a t ph p.attempt p.phase; invocation_is = found; phase_is = ap phase_as q } in
+    let c = every_call_is_one (opening_as o) (map event_as es) (sited w) (run_as o most es w F e) a (here m i) raw used calls in
+    let d : call_of m i.func raw ≡ Some c.0 = c.1 in
+    let some : IsSome (call_of m i.func raw) = rw d refl in
+    subst (IsPlainPhase m i) (sym q) some
+
+sound_world : (o : Opening) (most : ℕ) (es : List Event) (w : World) → Fits o most → run o es ≡ Some w → (p : Past) → now p ≡ w → IsSound p
+sound_world o most es w F e p n =
+    let r : worlds.run (opening_as o) (map event_as es) ≡ Some (sited w) = run_as o most es w F e in
+    let z : sited w ≡ sited (now p) = ap sited (sym n) in
+    record {
+      agrees = subst Agrees z (every_run_agrees (opening_as o) (map event_as es) (sited w) r).1;
+      nothing_early = subst Takes_nothing_early z (every_run_takes_nothing_early (opening_as o) (map event_as es) (sited w) r);
+      keeps_pace = subst Keeps_pace z (every_run_keeps_pace (opening_as o) (map event_as es) (sited w) r);
+    }
+
+pub run_sound : (p : Past) (w : World) → Fits p.opening p.limit → run p.opening p.history ≡ Some w → IsSound p
+run_sound p w F e = sound_world p.opening p.limit p.history w F e p (now_run p w e)
