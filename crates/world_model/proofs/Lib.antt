@@ -9,3 +9,8 @@ pub mod Pigeons
 pub mod Pace
 pub mod Computed
 pub mod Alike
+pub mod Leaves
+pub mod Looks
+pub mod Traces
+pub mod Marks
+pub mod Quiets

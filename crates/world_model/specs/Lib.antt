@@ -8,3 +8,4 @@ pub mod Collecting
 pub mod Paced
 pub mod Rows
 pub mod Steady
+pub mod Quiet

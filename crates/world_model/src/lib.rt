@@ -8,6 +8,7 @@ ghost use Rattle.world_model.specs.Agrees.{Every_run_agrees};
 ghost use Rattle.world_model.specs.Collecting.{Every_run_takes_nothing_early};
 ghost use Rattle.world_model.specs.Paced.{Every_run_keeps_pace};
 ghost use Rattle.world_model.specs.Steady.{Every_run_ends_alike};
+ghost use Rattle.world_model.specs.Quiet.{Every_quiet_session_has_ended};
 ghost use Rattle.world_model.specs.Rows.{One_task, Retried_task, Race};
 
 /// Whatever is delivered, repeated, crashed, answered and given up, every checkpoint belongs to one central run of its
@@ -31,6 +32,12 @@ pub fn keeps_pace()
 /// is that of its sequential run, and each of its checkpoints is of a visit of that run, with that visit's answer.
 pub fn sequential_outcomes()
     ensures { Every_run_ends_alike }
+{}
+
+/// Whatever happens, a session whose invocations are all acknowledged has ended, and nothing of it is left in the store but
+/// its outcome.
+pub fn quiet_sessions_end()
+    ensures { Every_quiet_session_has_ended }
 {}
 
 /// Small machines take as many events, and come to such ends, as is worked out by hand: a task whose function fails, the
