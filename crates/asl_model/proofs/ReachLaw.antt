@@ -1,13 +1,13 @@
 -- What pushes a run to its end: if each name that was invoked has its answer and has led to what comes after it,
 -- then every visit of the run was invoked, and its scopes have ended.
-use Rattle.std.proofs.Common.{◌≡◌, ℕ, zero, suc, ◌+◌, ◌-◌, ◌<◌, ◌≤◌, ◌⊎◌, List, [], ◌∷◌, map, Bool, true, false, nat_lt, Option, Some, None, length, slice_get, refl, sym, ap, ap₂, ◌∙◌, subst, inl, inr, arith}
+use Rattle.std.proofs.Common.{◌≡◌, ℕ, zero, suc, ◌+◌, ◌-◌, ◌<◌, ◌≤◌, List, [], ◌∷◌, map, Bool, true, false, nat_lt, Option, Some, None, length, slice_get, refl, sym, ap, ap₂, ◌∙◌, subst, inl, inr, arith}
 use Rattle.std.proofs.lemmas.Option.{same_Some}
 use Rattle.std.proofs.lemmas.Bool.{ltb-true, ltb-false}
-use Rattle.asl_model.specs.Data.{Text, Json, Null, Outcome, Done, combine}
-use Rattle.asl_model.specs.Names.{Scope, Place, Kind, Enter, Task as TaskKind, Join, Name, Answers, at_hop, scope_of, child}
+use Rattle.asl_model.specs.Data.{Text, Json, Outcome, Done, combine}
+use Rattle.asl_model.specs.Names.{Scope, Place, Enter, Task as TaskKind, Join, Name, Answers, at_hop, scope_of, child}
 use Rattle.asl_model.specs.Machine.{Used, Block, State, start_of, state_of, branches_of}
 use Rattle.asl_model.specs.Step.{Onward, Goes, Ends, Begun, On, Calls, Fans, Ways, HasOneEach}
-use Rattle.asl_model.specs.Central.{hop_limit, used_by, Visited, Entered, Called, Joined, Visit, name_of, kind_of, Ended, Waits, Run, Then_on, Gathered, All_ended, Some_wait, gather, visits_of, each, then_go, called, joined, entered, turn, enter, walk, scope}
+use Rattle.asl_model.specs.Central.{hop_limit, used_by, Visited, Called, Joined, Visit, name_of, kind_of, Ended, Waits, Run, Then_on, Gathered, All_ended, Some_wait, gather, visits_of, then_go, called, joined, entered, turn, enter, walk, scope}
 use Rattle.asl_model.specs.Stretch.{Stop, Call, Fan, Over, pairs, children, stop_on, stop_at, stop_in, first_stop, after_in, after}
 use Rattle.asl_model.specs.Laws.{In, Within, runs_of, fan_runs, Meets, MeetsFan, Stands, LeadsTo}
 use Rattle.asl_model.proofs.Lists.{In-left, In-right, In-cases}
@@ -16,6 +16,7 @@ use Rattle.asl_model.proofs.Fans.{fan_runs_are, branch_visits}
 use Rattle.asl_model.proofs.StandsLaw.{stands_lem, the_enter}
 use Rattle.asl_model.proofs.Uses.{branch_ends_lem}
 use Rattle.asl_model.proofs.WaitLaw.{waiting_lem}
+use Rattle.asl_model.proofs.WorldUse.{item_at, at_item}
 
 -- ---------------------------------------------------------------- words
 
@@ -62,16 +63,6 @@ pair_in [] xs i c x e = absurd (cc)
 pair_in (b ∷ bs) [] i c x e = absurd (cc)
 pair_in (b ∷ bs) (y ∷ ys) zero c x e = inl (ap (λ (z : Block × Json). z.0) (sym (same_Some (b, y) (c, x) e)))
 pair_in (b ∷ bs) (y ∷ ys) (suc i) c x e = inr (pair_in bs ys i c x e)
-
-item_at : (cs : List (Block × Json)) (i : ℕ) → i < length cs → (c : Block) × (x : Json) × (slice_get cs i ≡ Some (c, x))
-item_at [] i h = absurd (omega arith)
-item_at (c ∷ cs) zero h = (c.0, c.1, refl)
-item_at (c ∷ cs) (suc i) h = item_at cs i (omega arith)
-
-at_item : (cs : List (Block × Json)) (i : ℕ) (c : Block × Json) → slice_get cs i ≡ Some c → i < length cs
-at_item [] i c e = absurd (cc)
-at_item (d ∷ ds) zero c e = omega arith
-at_item (d ∷ ds) (suc i) c e = let l : i < length ds = at_item ds i c e in omega arith
 
 none_in : (cs : List (Block × Json)) → length cs ≡ 0 → cs ≡ []
 none_in [] e = refl
@@ -138,8 +129,8 @@ module _ (W : Ways) (one : HasOneEach W) (A : Answers) (width : Block → Text �
             let far : suc w ≤ i = ltb-false i (suc w) q in
             let k : ℕ = i - suc w in
             let back : k + suc w ≡ i = omega arith in
-            let (c, x, at) = item_at cs k (omega arith) in
-            let ended : O (branch k) = (item_reached k c x at (rec k (omega arith) (omega arith))).out in
+            let (c, at) = item_at cs k (omega arith) in
+            let ended : O (branch k) = (item_reached k c.0 c.1 at (rec k (omega arith) (omega arith))).out in
             subst (λ z. I (enter_name (branch z))) back (P.paces (at_hop s hop) b name raw used cs (follows.fan name hop raw used cs refl) w e k (omega arith) ended)
 
         by : ((k : ℕ) → k < m → k < length cs → I (enter_name (branch k))) → (w : ℕ) → width b name ≡ w → I (enter_name (branch i))
@@ -157,7 +148,7 @@ module _ (W : Ways) (one : HasOneEach W) (A : Answers) (width : Block → Text �
       where
         by : (n : ℕ) → length cs ≡ n → I (joins_name (at_hop s hop))
         by zero e = follows.led.0 (none_in cs e)
-        by (suc n) e = P.joins (at_hop s hop) (length cs) (omega arith) (λ i l. let (c, x, at) = item_at cs i l in (reached_at i c x at).out)
+        by (suc n) e = P.joins (at_hop s hop) (length cs) (omega arith) (λ i l. let (c, at) = item_at cs i l in (reached_at i c.0 c.1 at).out)
 
     inner_visits : (v : Visit) → In v (visits_of (fan_runs W A (at_hop s hop) cs)) → I (name_of v)
     inner_visits v h =
@@ -266,29 +257,28 @@ reach_lem W one A width I O b s x P k = block_reach W one A width (scope W A b s
 
 -- ---------------------------------------------------------------- the fans of a run that has ended
 
+-- a scope in a run that has ended has the Join of its fan
+joined_in : (W : Ways) (A : Answers) (b : Block) (s : Scope) (x : Json) (o : Outcome) → (scope W A b s x).end ≡ Ended o → (c : Block) (u : Scope) (y : Json) → Within (scope W A c u y).visits (scope W A b s x).visits →
+    (name : Text) (hop : ℕ) (raw : Json) (used : Used) (cs : List (Block × Json)) → MeetsFan W A c u (scope W A c u y) name hop raw used cs → (g : Gathered) → gather (fan_runs W A (at_hop u hop) cs) ≡ g →
+    (w : Visit) × In w (scope W A b s x).visits × (name_of w ≡ joins_name (at_hop u hop))
+joined_in W A b s x o e c u y within name hop raw used cs fan (All_ended os) q =
+    let j = fan.join os q in
+    (j.visit, within j.visit j.in_run, ap₂ (λ (p : Place) (z : Visited). let n : Name = record { place = p; kind = kind_of z } in n) j.place j.visited)
+joined_in W A b s x o e c u y within name hop raw used cs fan (Some_wait ps) q =
+    let stays : (scope W A c u y).end ≡ Waits ps = fan.waits ps q in
+    let (h, k) = (waiting_lem W A c u y).some ps stays in
+    let (v, i, vp, vn) = (waiting_lem W A c u y).waits_open ps stays h k in
+    let (qs, waits, m) = (waiting_lem W A b s x).open_waits v (within v i) vn in
+    absurd (let z : Ended o ≡ Waits qs = sym e ∙ waits in cc)
+
 -- each fan of a run that has ended has its Join there
 pub fan_joined_lem : (W : Ways) → HasOneEach W → (A : Answers) (b : Block) (s : Scope) (x : Json) (o : Outcome) → (scope W A b s x).end ≡ Ended o →
     (p : Place) (fb : Block) (name : Text) (raw : Json) (used : Used) (cs : List (Block × Json)) → LeadsTo W A (scope W A b s x).visits p fb name raw used cs →
     (w : Visit) × In w (scope W A b s x).visits × (name_of w ≡ joins_name p)
-fan_joined_lem W one A b s x o e p fb name raw used cs (v, i, vb, r, ve, vf, vp) = by (gather (fan_runs W A (at_hop t.at_scope p.hop) cs)) refl
-  where
-    t : Stands W A (scope W A b s x).visits v
-    t = stands_lem W one A b s x v i
-
-    own : Run
-    own = scope W A t.at_block t.at_scope t.enter.given
-
-    fan : MeetsFan W A t.at_block t.at_scope own name p.hop raw used cs
-    fan = subst (Meets W A t.at_block t.at_scope own) (ap (λ z. after W z v.visited v.place.hop v.raw v.used r) (sym t.block) ∙ vf) (t.next r ve)
-
-    by : (g : Gathered) → gather (fan_runs W A (at_hop t.at_scope p.hop) cs) ≡ g → (w : Visit) × In w (scope W A b s x).visits × (name_of w ≡ joins_name p)
-    by (All_ended os) q =
-        let j = fan.join os q in
-        let at : j.visit.place ≡ p = j.place ∙ ap (λ z. at_hop z p.hop) (sym t.scope_is) ∙ sym vp in
-        (j.visit, t.within j.visit j.in_run, ap₂ (λ (q : Place) (z : Visited). let n : Name = record { place = q; kind = kind_of z } in n) at j.visited)
-    by (Some_wait ps) q =
-        let stays : own.end ≡ Waits ps = fan.waits ps q in
-        let (h, k) = (waiting_lem W A t.at_block t.at_scope t.enter.given).some ps stays in
-        let (u, j, up, un) = (waiting_lem W A t.at_block t.at_scope t.enter.given).waits_open ps stays h k in
-        let (qs, ends, m) = (waiting_lem W A b s x).open_waits u (t.within u j) un in
-        absurd (let z : Ended o ≡ Waits qs = sym e ∙ ends in cc)
+fan_joined_lem W one A b s x o e p fb name raw used cs (v, i, vb, r, ve, vf, vp) =
+    let t : Stands W A (scope W A b s x).visits v = stands_lem W one A b s x v i in
+    let fan : MeetsFan W A t.at_block t.at_scope (scope W A t.at_block t.at_scope t.enter.given) name p.hop raw used cs =
+    subst (Meets W A t.at_block t.at_scope (scope W A t.at_block t.at_scope t.enter.given)) (ap (λ z. after W z v.visited v.place.hop v.raw v.used r) (sym t.block) ∙ vf) (t.next r ve) in
+    let at : at_hop t.at_scope p.hop ≡ p = ap (λ z. at_hop z p.hop) (sym t.scope_is) ∙ sym vp in
+    subst (λ (q : Place). (w : Visit) × In w (scope W A b s x).visits × (name_of w ≡ joins_name q)) at
+    (joined_in W A b s x o e t.at_block t.at_scope t.enter.given t.within name p.hop raw used cs fan (gather (fan_runs W A (at_hop t.at_scope p.hop) cs)) refl)

@@ -707,7 +707,7 @@ looked_ok w K a i Tombstone q = tt
 name_join : (n : Name) → n.kind ≡ names.Join → join_name n.place ≡ n
 name_join n e = ap (λ (z : names.Kind). record { place = n.place; kind = z }) (sym e)
 
-get_at : {A : Type 0} (xs : List A) (m : ℕ) → m < length xs → (x : A) × (slice_get xs m ≡ Some x)
+pub get_at : {A : Type 0} (xs : List A) (m : ℕ) → m < length xs → (x : A) × (slice_get xs m ≡ Some x)
 get_at [] m l = absurd (omega arith)
 get_at (x ∷ xs) zero l = (x, refl)
 get_at (x ∷ xs) (suc m) l = get_at xs m (omega arith)
@@ -777,7 +777,7 @@ saved_ok w K a i m name q Absent e = tt
 saved_ok w K a i m name q (Live h) e = saved_phase w.opening w.journal a i m name q h (has_at w K (Saved i.name.place) (Live h) e)
 saved_ok w K a i m name q Tombstone e = tt
 
-get_pushed_at : {A : Type 0} (xs : List A) (y : A) (k : ℕ) (x : A) → slice_get (xs ++ y ∷ []) k ≡ Some x → (slice_get xs k ≡ Some x) ⊎ ((k ≡ length xs) × (y ≡ x))
+pub get_pushed_at : {A : Type 0} (xs : List A) (y : A) (k : ℕ) (x : A) → slice_get (xs ++ y ∷ []) k ≡ Some x → (slice_get xs k ≡ Some x) ⊎ ((k ≡ length xs) × (y ≡ x))
 get_pushed_at [] y zero x e = inr (refl, same_Some y x e)
 get_pushed_at [] y (suc k) x e = absurd (cc)
 get_pushed_at (z ∷ xs) y zero x e = inl e
@@ -1212,7 +1212,7 @@ read_ok w K a i m Tombstone e = tt
 
 -- ---------------------------------------------------------------- a bitmap that is full
 
-and_parts : (a b : Bool) → a && b ≡ true → (a ≡ true) × (b ≡ true)
+pub and_parts : (a b : Bool) → a && b ≡ true → (a ≡ true) × (b ≡ true)
 and_parts true b q = (refl, q)
 and_parts false b q = cc
 
@@ -1430,7 +1430,7 @@ arg_stays w K n a e =
     let h : Has_entry w.journal n = has_at w K (Arg n) Tombstone e in
     apart h.0 h.1.0 h.1.1
 
-pub place_of : (cs : List (Block × Json)) (n : ℕ) (c : Block × Json) → slice_get cs n ≡ Some c → n < length cs
+pub place_of : {A : Type 0} (cs : List A) (n : ℕ) (c : A) → slice_get cs n ≡ Some c → n < length cs
 place_of [] n c e = absurd (cc)
 place_of (d ∷ ds) zero c e = omega arith
 place_of (d ∷ ds) (suc n) c e = let l : n < length ds = place_of ds n c e in omega arith

@@ -13,4 +13,7 @@ pub mod Leaves
 pub mod Looks
 pub mod Traces
 pub mod Marks
+pub mod Bitmaps
+pub mod Pushed
 pub mod Quiets
+pub mod Drains

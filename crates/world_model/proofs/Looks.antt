@@ -16,6 +16,7 @@ use Rattle.world_model.specs.Operations.{Spot, OnEnter, OnTask, OnJoin, Kept, He
 use Rattle.world_model.specs.Acts.{parent_of, out_objects, bits_objects, due_enter, due_of, due}
 use Rattle.world_model.specs.Program.{Phase, Gathering, Creating, Acting, Acking, source_in, source, input_at, enters_with, read_as, after_read, kept_of, gathers, adopted, saved, one_more, after_look, after_saved, after_out, after_create, state_at}
 use Rattle.world_model.specs.World.{Opening, Entry, Attempt, World, put, created, look_reply, create_reply, moved, entries_of}
+use Rattle.world_model.proofs.Gets.{get_in}
 use Rattle.world_model.proofs.Runs.{run_one_fan}
 use Rattle.world_model.proofs.Keeps.{World_keeps, Made_ok, Fan_at, has_at, enter_name, is_task, is_join}
 use Rattle.world_model.proofs.Leaves.{Objects, Present, Has_count, before_enter, before_of, Ready, Called_join, Left_ok, Gathers_left, Phase_left, World_leaves, more_entries, Later, ready_later, put_there, put_later, put_left, att_left}
@@ -38,19 +39,6 @@ pub gone_present : (f : Objects) (x : Obj) → f x ≡ Tombstone → Present f x
 gone_present f x e = λ q. let z : Tombstone ≡ Absent = sym e ∙ q in cc
 
 -- ---------------------------------------------------------------- what is due
-
-pub in_get : {A : Type 0} (xs ys : List A) (x : A) → In x xs → (l : ℕ) × (l < length xs) × (slice_get (xs ++ ys) l ≡ Some x)
-in_get [] ys x h = absurd h
-in_get (y ∷ xs) ys x h =
-    elim h [
-      | inl e ↦ (0, omega arith, ap Some (sym e))
-      | inr k ↦ let (l, lt, e) = in_get xs ys x k in (suc l, omega arith, e)
-    ]
-
-pub get_in : {A : Type 0} (xs : List A) (l : ℕ) (x : A) → slice_get xs l ≡ Some x → In x xs
-get_in [] l x e = absurd (cc)
-get_in (y ∷ xs) zero x e = inl (sym (same_Some y x e))
-get_in (y ∷ xs) (suc l) x e = inr (get_in xs l x e)
 
 enter_split : (n : Name) (z : Option Parent) → due_enter n z ≡ before_enter n z ++ Check n ∷ []
 enter_split n None = refl
@@ -90,10 +78,6 @@ check_last [] n m zero f e = refl
 check_last [] n m (suc l) f e = absurd (cc)
 check_last (y ∷ xs) n m zero f e = absurd (f m (inl (sym (same_Some y (Check m) e))))
 check_last (y ∷ xs) n m (suc l) f e = ap suc (check_last xs n m l (λ q h. f q (inr h)) e)
-
-pub own_place : {A : Type 0} (xs : List A) (y : A) → slice_get (xs ++ y ∷ []) (length xs) ≡ Some y
-own_place [] y = refl
-own_place (x ∷ xs) y = own_place xs y
 
 -- each due object is there
 pub due_there : (o : Opening) (f : Objects) (j : List Entry) (n : Name) (count : ℕ) → Ready o f j n count → Present f (Check n) → (l : ℕ) (x : Obj) → slice_get (due n count) l ≡ Some x → Present f x

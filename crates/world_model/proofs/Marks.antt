@@ -14,11 +14,11 @@ use Rattle.world_model.specs.Operations.{name_at, root, Kept, Condition, Absent,
 use Rattle.world_model.specs.Acts.{parent_of, acts, due}
 use Rattle.world_model.specs.Program.{Phase, Looking, Saving, Gathering, Reading, Calling, Creating, Acting, Joining, Marking, Acking, Attempt_over, Doing, Do, Ask, Nothing, source, call_of, asking, marking, next_of, absorb, called_back, after_look, after_saved, after_out, after_read}
 use Rattle.world_model.specs.World.{Opening, Session, Entry, InvState, Attempt, World, Event, Deliver, Crash, Step, Answer, GiveUp, function_of, put, marked, look_reply, fresh, acked, ended_try, with_state, with_inv, with_att, moved, did, asked, answered_by, delivered, crashed, effect, enabled, start, start_objects, root_inv, root_invs, root_states, run_from}
-use Rattle.world_model.proofs.Gets.{get_pushed, get_set}
+use Rattle.world_model.proofs.Gets.{get_pushed, get_set, get_last, in_get}
 use Rattle.world_model.proofs.Keeps.{World_keeps, Phase_ok, Kept_ok, Due, due_ok}
 use Rattle.world_model.proofs.Every.{phase_of, run_none, root_get, effect_ok, start_ok}
 use Rattle.world_model.proofs.Leaves.{Objects, before_of, Closed, Left_ok, Marks_left, Phase_left, Leaves, World_leaves, more_same, Later, marks_later, put_there, put_has, put_later, put_left, att_left}
-use Rattle.world_model.proofs.Looks.{moved_left, in_get, due_split, before_no_check, check_last, own_place, due_there, looked_left, after_saved_left, after_out_left, after_read_left, created_left, le_cases}
+use Rattle.world_model.proofs.Looks.{moved_left, due_split, before_no_check, check_last, due_there, looked_left, after_saved_left, after_out_left, after_read_left, created_left, le_cases}
 use Rattle.world_model.proofs.Traces.{acting_left, joining_left}
 
 -- ---------------------------------------------------------------- a mark
@@ -82,7 +82,7 @@ mark_phase w f i k m x d e g = by
         let before : List Obj = before_of i.name k.count i.name.kind in
         let l : length (due i.name k.count) ≤ suc m = ltb-false (suc m) (length (due i.name k.count)) r in
         let s : length (due i.name k.count) ≡ length before + 1 = ap (λ (z : List Obj). length z) (due_split i.name k.count i.name.kind) ∙ length-append before (Check i.name ∷ []) in
-        all (length before) (Check i.name) (due_at i.name k.count (length before) (Check i.name) (own_place before (Check i.name))) (omega arith)
+        all (length before) (Check i.name) (due_at i.name k.count (length before) (Check i.name) (get_last before (Check i.name))) (omega arith)
 
 mark_left : (w : World) → World_leaves w → (a : ℕ) (t : Attempt) (i : Invocation) (k : Kept) → slice_get w.invs t.inv ≡ Some i → (m : ℕ) → Kept_ok w.opening w.journal i.name k → Marks_left w.opening w.objects w.invs w.journal i k m →
     (x : Obj) → slice_get (due i.name k.count) m ≡ Some x → Due i.name x → (c : Condition) → w.objects x ≡ c →

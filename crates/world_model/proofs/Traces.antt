@@ -16,11 +16,11 @@ use Rattle.world_model.specs.Operations.{name_at, Frame, Site, Kept, Held, Bits_
 use Rattle.world_model.specs.Acts.{parent_of, join_name, join_of, task_of, enter_of, inner, width_of, width_in, at_once, enter_ops, fan_ops, pace_ops, set_ops, acts, acts_of, stop_of, due}
 use Rattle.world_model.specs.Program.{Acting, Joining, Marking, Do, doing, joining, absorb, after_act}
 use Rattle.world_model.specs.World.{Opening, Entry, InvState, Attempt, World, put, created, with_bit, set_reply, has_bit, has_all, bits_of, create_reply, fresh, moved, did, entries_of}
-use Rattle.world_model.proofs.Gets.{get_append, get_pushed}
-use Rattle.world_model.proofs.Keeps.{World_keeps, Kept_ok, Frame_ok, Frames_ok, Op_ok, Follows, adopted_stop, acts_ok, leads, parent_of_child, root_no_parent}
+use Rattle.world_model.proofs.Gets.{get_append, get_pushed, get_last}
+use Rattle.world_model.proofs.Keeps.{World_keeps, Kept_ok, Frame_ok, Frames_ok, Op_ok, Follows, adopted_stop, acts_ok, leads, parent_of_child, root_no_parent, place_of}
 use Rattle.world_model.proofs.Every.{other_get}
 use Rattle.world_model.proofs.Leaves.{Objects, Has_inv, Has_count, Trace, Acted, Acted_all, before_of, Called_join, Invited_ok, Left_ok, Acts_left, Joins_left, Phase_left, Leaves, World_leaves, more_same, Later, left_later, acts_later, joins_later, phase_later, put_there, put_later, put_left}
-use Rattle.world_model.proofs.Looks.{moved_left, left_at, live_present, gone_present, own_place, le_cases}
+use Rattle.world_model.proofs.Looks.{moved_left, left_at, live_present, gone_present, le_cases}
 
 -- ---------------------------------------------------------------- what is among the acts
 
@@ -139,11 +139,6 @@ frames_count o j s b (f ∷ around) h q e =
 
 -- ---------------------------------------------------------------- one act more
 
-get_less : {A : Type 0} (xs : List A) (k : ℕ) (x : A) → slice_get xs k ≡ Some x → k < length xs
-get_less [] k x e = absurd (cc)
-get_less (y ∷ xs) zero x e = omega arith
-get_less (y ∷ xs) (suc k) x e = let l : k < length xs = get_less xs k x e in omega arith
-
 acted_more : (f : Objects) (invs : List Invocation) (ops : List Op) (m : ℕ) (op : Op) → slice_get ops m ≡ Some op → Trace f invs op → Acted f invs ops m → Acted f invs ops (suc m)
 acted_more f invs ops m op e t g = λ l x q lt.
     elim (le_cases l m (omega arith)) [
@@ -154,7 +149,7 @@ acted_more f invs ops m op e t g = λ l x q lt.
     ]
 
 acted_all : (f : Objects) (invs : List Invocation) (ops : List Op) (m : ℕ) → Acted f invs ops m → length ops ≤ m → Acted_all f invs ops
-acted_all f invs ops m g l = λ y op e. let k : y < length ops = get_less ops y op e in g y op e (omega arith)
+acted_all f invs ops m g l = λ y op e. let k : y < length ops = place_of ops y op e in g y op e (omega arith)
 
 no_marks : (f : Objects) (n : Name) (count : ℕ) → (l : ℕ) (x : Obj) → slice_get (due n count) l ≡ Some x → l < 0 → f x ≡ Tombstone
 no_marks f n count l x e lt = absurd (omega arith)
@@ -244,7 +239,7 @@ invoked_left w K L v ok =
     }
 
 has_new : (invs : List Invocation) (v : Invocation) → Has_inv (invs ++ v ∷ []) v.name
-has_new invs v = record { number = length invs; invocation = v; found = own_place invs v; name_is = refl }
+has_new invs v = record { number = length invs; invocation = v; found = get_last invs v; name_is = refl }
 
 invoke_left : (w : World) → World_keeps w → World_leaves w → (a : ℕ) (t : Attempt) (i : Invocation) (k : Kept) → slice_get w.invs t.inv ≡ Some i → (m : ℕ) →
     Acts_left w.opening w.objects w.invs w.journal i k m → (v : Invocation) → slice_get (acts i k) m ≡ Some (Invoke v) → Invited_ok w.opening w.objects w.journal v →

@@ -9,3 +9,4 @@ pub mod Paced
 pub mod Rows
 pub mod Steady
 pub mod Quiet
+pub mod Drained
