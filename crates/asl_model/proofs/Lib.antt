@@ -26,3 +26,4 @@ pub mod SequentialLaw
 pub mod Computed
 pub mod StopLaw
 pub mod EndedLaw
+pub mod ReachLaw

@@ -25,12 +25,12 @@ fan_kept_lem W A B h b s x p fb name raw used cs (v, i, vb, o, e, f, at) =
     let stop : after W w.block w.visited w.place.hop w.raw w.used o ≡ after W v.block v.visited v.place.hop v.raw v.used o = cc (g.block, g.visited, g.place, g.raw, g.used) in
     (w, k, g.block ∙ vb, o, g.answer o e, stop ∙ f, at ∙ ap (λ (z : Place). at_hop (scope_of z) p.hop) (sym g.place))
 
-item_at : (cs : List (Block × Json)) (i : ℕ) → i < length cs → (c : Block × Json) × (slice_get cs i ≡ Some c)
+pub item_at : (cs : List (Block × Json)) (i : ℕ) → i < length cs → (c : Block × Json) × (slice_get cs i ≡ Some c)
 item_at [] i h = absurd (omega arith)
 item_at (c ∷ cs) zero h = (c, refl)
 item_at (c ∷ cs) (suc i) h = item_at cs i (omega arith)
 
-at_item : (cs : List (Block × Json)) (i : ℕ) (c : Block × Json) → slice_get cs i ≡ Some c → i < length cs
+pub at_item : (cs : List (Block × Json)) (i : ℕ) (c : Block × Json) → slice_get cs i ≡ Some c → i < length cs
 at_item [] i c e = absurd (cc)
 at_item (d ∷ ds) zero c e = omega arith
 at_item (d ∷ ds) (suc i) c e = let l : i < length ds = at_item ds i c e in omega arith

@@ -138,7 +138,8 @@ impl World {
 
     /// What holds of every world: each checkpoint belongs to one central run of its session, in which each visit of a task
     /// answers at most once, with the checkpoint that won; each ended session has that run's outcome; nothing is collected
-    /// that is still to be read; and fans keep to their limits.
+    /// that is still to be read; fans keep to their limits; a session whose invocations are all acknowledged has ended; and
+    /// a world in which no event is enabled is at rest.
     pub fn is_sound(&self)
         ensures { IsSound self.now }
     {

@@ -19,4 +19,4 @@ retried_row = (refl, refl, refl, refl)
 
 pub race_row : Race
 unfolding standard scope same_text prepared hop_limit rules parent_of next_of absorb function_of root_invs root_states start_objects put effect enabled run_from answered run_of a_name
-race_row = (refl, refl, refl)
+race_row = (refl, refl, refl, refl)

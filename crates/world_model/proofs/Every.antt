@@ -68,7 +68,7 @@ asked_ok w K a t i found at (Attempt_over finished) e d = K
 
 -- ---------------------------------------------------------------- each event
 
-other_get : {A B : Type 0} (xs : List A) (ys : List B) (k : ℕ) (x : A) → slice_get xs k ≡ Some x → length xs ≡ length ys → (y : B) × (slice_get ys k ≡ Some y)
+pub other_get : {A B : Type 0} (xs : List A) (ys : List B) (k : ℕ) (x : A) → slice_get xs k ≡ Some x → length xs ≡ length ys → (y : B) × (slice_get ys k ≡ Some y)
 other_get [] ys k x e l = absurd (cc)
 other_get (x ∷ xs) [] k z e l = absurd (cc)
 other_get (x ∷ xs) (y ∷ ys) zero z e l = (y, refl)
@@ -114,7 +114,7 @@ with_att_ok : (w : World) → World_keeps w → (a : ℕ) (f : Attempt → World
 with_att_ok w K a f g None q = K
 with_att_ok w K a f g (Some t) q = g t q
 
-phase_of : (w : World) → World_keeps w → (a : ℕ) (t : Attempt) (i : Invocation) → slice_get w.atts a ≡ Some t → slice_get w.invs t.inv ≡ Some i →
+pub phase_of : (w : World) → World_keeps w → (a : ℕ) (t : Attempt) (i : Invocation) → slice_get w.atts a ≡ Some t → slice_get w.invs t.inv ≡ Some i →
     Phase_ok w.opening w.journal a i t.phase
 phase_of w K a t i found at =
     let d : Att_ok w.opening w.invs w.journal a t.inv t.phase = K.attempts a t found in

@@ -41,7 +41,7 @@ finished_more invs more atts others n c = record {
   finished = c.finished;
 }
 
-set_own : {A : Type 0} (xs : List A) (k : ℕ) (x y : A) → slice_get xs k ≡ Some x → slice_get (slice_set xs k y) k ≡ Some y
+pub set_own : {A : Type 0} (xs : List A) (k : ℕ) (x y : A) → slice_get xs k ≡ Some x → slice_get (slice_set xs k y) k ≡ Some y
 set_own [] k x y e = absurd (cc)
 set_own (z ∷ xs) zero x y e = refl
 set_own (z ∷ xs) (suc k) x y e = set_own xs k x y e
@@ -112,7 +112,7 @@ performed w F a t (Invoke v) d = invoked_finishes w F v
 performed w F a t (Mark x) d = absurd d
 performed w F a t Ack d = state_finishes w F t.inv acked (slice_get w.states t.inv)
 
-same_attempts : (w : World) (a : ℕ) (t : Attempt) (op : Op) → (perform w a t op).atts ≡ w.atts
+pub same_attempts : (w : World) (a : ℕ) (t : Attempt) (op : Op) → (perform w a t op).atts ≡ w.atts
 same_attempts w a t (Look x) = refl
 same_attempts w a t (Create x h) = elim (w.objects x) as (λ c. (created w a x h c).atts ≡ w.atts) [ Absent ↦ refl | Live y ↦ refl | Tombstone ↦ refl ]
 same_attempts w a t (Set p index count) = elim (w.objects (Bits p count)) as (λ c. (with_bit w p index count c).atts ≡ w.atts) [ Absent ↦ refl | Live y ↦ refl | Tombstone ↦ refl ]

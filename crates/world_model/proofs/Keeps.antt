@@ -235,7 +235,7 @@ module _ (o : Opening) (j es : List Entry) where
   name_grown : (v u : Visit) → IsGrown v u → name_of u ≡ name_of v
   name_grown v u g = ap₂ (λ (p : Place) (z : Visited). let n : Name = record { place = p; kind = kind_at z } in n) g.place g.visited
 
-  kept_more : (n : Name) (k : Kept) → Kept_ok o j n k → Kept_ok o (j ++ es) n k
+  pub kept_more : (n : Name) (k : Kept) → Kept_ok o j n k → Kept_ok o (j ++ es) n k
   kept_more n k c =
       let (u, i, g) = grown n.place.session c.visit c.in_run in
       record {
@@ -251,7 +251,7 @@ module _ (o : Opening) (j es : List Entry) where
   entry_stays : (n : Name) → Has_entry j n → Has_entry (j ++ es) n
   entry_stays n h = (h.0, (In-left j es h.0 h.1.0, h.1.1))
 
-  fan_at_more : (p : Place) (raw : Json) (used : Used) (count : ℕ) → Fan_at o j p raw used count → Fan_at o (j ++ es) p raw used count
+  pub fan_at_more : (p : Place) (raw : Json) (used : Used) (count : ℕ) → Fan_at o j p raw used count → Fan_at o (j ++ es) p raw used count
   fan_at_more p raw used count c = record {
     block = c.block;
     name = c.name;
@@ -423,7 +423,7 @@ object_changed w K y c h = record {
 }
 
 -- what an object has where its condition is known
-has_at : (w : World) → World_keeps w → (x : Obj) (c : Condition) → w.objects x ≡ c → Object_ok w.opening w.journal x c
+pub has_at : (w : World) → World_keeps w → (x : Obj) (c : Condition) → w.objects x ≡ c → Object_ok w.opening w.journal x c
 has_at w K x c e = subst (Object_ok w.opening w.journal x) e (K.has x)
 
 -- ---------------------------------------------------------------- an attempt moves
@@ -489,12 +489,12 @@ is_enter Entered e = refl
 is_enter (Called name resource) e = absurd (cc)
 is_enter (Joined name) e = absurd (cc)
 
-is_task : (v : Visited) (n : Text) → spot_of v ≡ OnTask n → (r : Text) × (v ≡ Called n r)
+pub is_task : (v : Visited) (n : Text) → spot_of v ≡ OnTask n → (r : Text) × (v ≡ Called n r)
 is_task Entered n e = absurd (cc)
 is_task (Called name resource) n e = (resource, let same : name ≡ n = cc in ap (λ z. Called z resource) same)
 is_task (Joined name) n e = absurd (cc)
 
-is_join : (v : Visited) (n : Text) → spot_of v ≡ OnJoin n → v ≡ Joined n
+pub is_join : (v : Visited) (n : Text) → spot_of v ≡ OnJoin n → v ≡ Joined n
 is_join Entered n e = absurd (cc)
 is_join (Called name resource) n e = absurd (cc)
 is_join (Joined name) n e = let same : name ≡ n = cc in ap Joined same
@@ -661,7 +661,7 @@ states_ok w K n f (Some s) = record {
 }
 
 -- a root scope is no branch
-root_no_parent : (s : Scope) → s.trail ≡ [] → (q : Parent) → parent_of s ≡ Some q → ⊥
+pub root_no_parent : (s : Scope) → s.trail ≡ [] → (q : Parent) → parent_of s ≡ Some q → ⊥
 unfolding parent_of
 root_no_parent s t q e = let z : None ≡ Some q = ap (λ y. parent_in s.session (split_last y)) (sym t) ∙ e in cc
 
@@ -707,7 +707,7 @@ looked_ok w K a i Tombstone q = tt
 name_join : (n : Name) → n.kind ≡ names.Join → join_name n.place ≡ n
 name_join n e = ap (λ (z : names.Kind). record { place = n.place; kind = z }) (sym e)
 
-get_at : {A : Type 0} (xs : List A) (m : ℕ) → m < length xs → (x : A) × (slice_get xs m ≡ Some x)
+pub get_at : {A : Type 0} (xs : List A) (m : ℕ) → m < length xs → (x : A) × (slice_get xs m ≡ Some x)
 get_at [] m l = absurd (omega arith)
 get_at (x ∷ xs) zero l = (x, refl)
 get_at (x ∷ xs) (suc m) l = get_at xs m (omega arith)
@@ -777,7 +777,7 @@ saved_ok w K a i m name q Absent e = tt
 saved_ok w K a i m name q (Live h) e = saved_phase w.opening w.journal a i m name q h (has_at w K (Saved i.name.place) (Live h) e)
 saved_ok w K a i m name q Tombstone e = tt
 
-get_pushed_at : {A : Type 0} (xs : List A) (y : A) (k : ℕ) (x : A) → slice_get (xs ++ y ∷ []) k ≡ Some x → (slice_get xs k ≡ Some x) ⊎ ((k ≡ length xs) × (y ≡ x))
+pub get_pushed_at : {A : Type 0} (xs : List A) (y : A) (k : ℕ) (x : A) → slice_get (xs ++ y ∷ []) k ≡ Some x → (slice_get xs k ≡ Some x) ⊎ ((k ≡ length xs) × (y ≡ x))
 get_pushed_at [] y zero x e = inr (refl, same_Some y x e)
 get_pushed_at [] y (suc k) x e = absurd (cc)
 get_pushed_at (z ∷ xs) y zero x e = inl e
@@ -849,7 +849,7 @@ created_ok w K a t i k found at d Tombstone q = moved_ok w a t i true (Acking fa
 -- ---------------------------------------------------------------- acts
 
 -- what follows the adopted answer stands in R
-record Follows (o : Opening) (j : List Entry) (i : Invocation) (stop : Stop) : Type 0 where
+pub record Follows (o : Opening) (j : List Entry) (i : Invocation) (stop : Stop) : Type 0 where
   visit : Visit
   in_run : In visit (run_for o j i.name).visits
   answer : Outcome
@@ -861,7 +861,7 @@ record Follows (o : Opening) (j : List Entry) (i : Invocation) (stop : Stop) : T
   stop_is : after rules visit.block visit.visited visit.place.hop visit.raw visit.used answer ≡ stop
 
 -- an Enter's name
-enter_name : (o : Opening) (j : List Entry) (i : Invocation) (m : Made_ok o j i) → i.site.spot ≡ OnEnter → (i.name.place.hop ≡ 0) × (i.name.kind ≡ names.Enter)
+pub enter_name : (o : Opening) (j : List Entry) (i : Invocation) (m : Made_ok o j i) → i.site.spot ≡ OnEnter → (i.name.place.hop ≡ 0) × (i.name.kind ≡ names.Enter)
 enter_name o j i m q =
     let entered : m.visit.visited ≡ Entered = is_enter m.visit.visited (m.spot_is ∙ q) in
     let S : Visited → Type 0 = λ z. IsSound rules (answered j) m.visit z in
@@ -879,7 +879,7 @@ opened_by o j i k m d = elim m.opened [
   | inr h ↦ h
 ]
 
-adopted_stop : (o : Opening) (j : List Entry) (i : Invocation) (k : Kept) → Made_ok o j i → Kept_ok o j i.name k → Follows o j i (stop_of i.site i.name.place.hop k)
+pub adopted_stop : (o : Opening) (j : List Entry) (i : Invocation) (k : Kept) → Made_ok o j i → Kept_ok o j i.name k → Follows o j i (stop_of i.site i.name.place.hop k)
 adopted_stop o j i k m d =
     let v : Visit = d.visit in
     let one : v ≡ m.visit = run_once o j i.name.place.session v m.visit d.in_run m.in_run (d.name_is ∙ sym m.name_is) in
@@ -1047,7 +1047,7 @@ module _ (o : Opening) (j : List Entry) (i : Invocation) where
   followed stop f = subst (FollowedBy rules (answered j) (run_for o j i.name).visits f.visit) f.stop_is (run_next o j i.name.place.session f.visit f.answer f.in_run f.answer_is)
 
   -- the fan that it leads to
-  leads : (name : Text) (hop : ℕ) (raw : Json) (used : Used) (cs : List (Block × Json)) → Follows o j i (Fan name hop raw used cs) → HasFan o j (at_hop S hop) i.site.block name raw used cs
+  pub leads : (name : Text) (hop : ℕ) (raw : Json) (used : Used) (cs : List (Block × Json)) → Follows o j i (Fan name hop raw used cs) → HasFan o j (at_hop S hop) i.site.block name raw used cs
   leads name hop raw used cs f =
       (f.visit, f.in_run, f.block_is, f.answer, f.answer_is, f.stop_is, ap (λ (z : Place). at_hop (scope_of z) hop) (sym f.place_is))
 
@@ -1114,7 +1114,7 @@ module _ (o : Opening) (j : List Entry) (i : Invocation) where
     sets_ok None q m op e = absurd (cc)
     sets_ok (Some p) q m op e = width_ok p q i.site.around refl m op e
 
-  acts_ok : (stop : Stop) (m : ℕ) (op : Op) → Follows o j i stop → slice_get (acts_of i.site S stop) m ≡ Some op → Op_ok o j S op
+  pub acts_ok : (stop : Stop) (m : ℕ) (op : Op) → Follows o j i stop → slice_get (acts_of i.site S stop) m ≡ Some op → Op_ok o j S op
   acts_ok (Call name hop raw used) zero op f e = first_op o j S (Create (Arg (name_at S hop names.Task)) (Arg_is raw used)) op (made_task name hop raw used f).1 e
   acts_ok (Call name hop raw used) (suc zero) op f e = first_op o j S (Invoke (task_of i.site S hop name)) op (made_task name hop raw used f).0 e
   acts_ok (Call name hop raw used) (suc (suc m)) op f e = absurd (cc)
@@ -1212,7 +1212,7 @@ read_ok w K a i m Tombstone e = tt
 
 -- ---------------------------------------------------------------- a bitmap that is full
 
-and_parts : (a b : Bool) → a && b ≡ true → (a ≡ true) × (b ≡ true)
+pub and_parts : (a b : Bool) → a && b ≡ true → (a ≡ true) × (b ≡ true)
 and_parts true b q = (refl, q)
 and_parts false b q = cc
 
@@ -1430,7 +1430,7 @@ arg_stays w K n a e =
     let h : Has_entry w.journal n = has_at w K (Arg n) Tombstone e in
     apart h.0 h.1.0 h.1.1
 
-place_of : (cs : List (Block × Json)) (n : ℕ) (c : Block × Json) → slice_get cs n ≡ Some c → n < length cs
+pub place_of : {A : Type 0} (cs : List A) (n : ℕ) (c : A) → slice_get cs n ≡ Some c → n < length cs
 place_of [] n c e = absurd (cc)
 place_of (d ∷ ds) zero c e = omega arith
 place_of (d ∷ ds) (suc n) c e = let l : n < length ds = place_of ds n c e in omega arith

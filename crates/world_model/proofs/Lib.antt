@@ -10,3 +10,11 @@ pub mod Pace
 pub mod Computed
 pub mod Alike
 pub mod Asks
+pub mod Leaves
+pub mod Looks
+pub mod Traces
+pub mod Marks
+pub mod Bitmaps
+pub mod Pushed
+pub mod Quiets
+pub mod Drains

@@ -9,3 +9,5 @@ pub mod Collecting
 pub mod Paced
 pub mod Rows
 pub mod Steady
+pub mod Quiet
+pub mod Drained

@@ -102,7 +102,16 @@ abbrev pub out_at : Option World → Condition
 out_at None = Absent
 out_at (Some w) = w.objects (Out (root 0))
 
--- and there is nothing more to deliver
+-- how many invocations are not acknowledged
+abbrev pub open_in : List InvState → ℕ
+open_in [] = 0
+open_in (s ∷ ss) = cond s.acked (open_in ss) (suc (open_in ss))
+
+abbrev pub open_at : Option World → ℕ
+open_at None = 1
+open_at (Some w) = open_in w.states
+
+-- and all is acknowledged, so there is nothing more to deliver
 abbrev pub Race : Type 0
 Race = (out_at (run (opening (one_task bare)) race) ≡ Live (Outcome_is broken)) × (tickets_at (run (opening (one_task bare)) race) ≡ 0 ∷ 3 ∷ [])
-    × (run (opening (one_task bare)) (race ++ Deliver 1 ∷ []) ≡ None)
+    × (open_at (run (opening (one_task bare)) race) ≡ 0) × (run (opening (one_task bare)) (race ++ Deliver 1 ∷ []) ≡ None)

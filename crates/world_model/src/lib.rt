@@ -9,6 +9,8 @@ ghost use Rattle.world_model.specs.Asking.{Every_call_is_one};
 ghost use Rattle.world_model.specs.Collecting.{Every_run_takes_nothing_early};
 ghost use Rattle.world_model.specs.Paced.{Every_run_keeps_pace};
 ghost use Rattle.world_model.specs.Steady.{Every_run_ends_alike};
+ghost use Rattle.world_model.specs.Quiet.{Every_quiet_session_has_ended};
+ghost use Rattle.world_model.specs.Drained.{Every_drained_world_rests};
 ghost use Rattle.world_model.specs.Rows.{One_task, Retried_task, Race};
 
 /// Whatever is delivered, repeated, crashed, answered and given up, every checkpoint belongs to one central run of its
@@ -37,6 +39,18 @@ pub fn calls_are_made()
 /// is that of its sequential run, and each of its checkpoints is of a visit of that run, with that visit's answer.
 pub fn sequential_outcomes()
     ensures { Every_run_ends_alike }
+{}
+
+/// Whatever happens, a session whose invocations are all acknowledged has ended, and nothing of it is left in the store but
+/// its outcome.
+pub fn quiet_sessions_end()
+    ensures { Every_quiet_session_has_ended }
+{}
+
+/// Where nothing more may happen, no attempt lives, each invocation is acknowledged or given up, and each session has ended
+/// and is swept, or an invocation of it was given up.
+pub fn drained_worlds_rest()
+    ensures { Every_drained_world_rests }
 {}
 
 /// Small machines take as many events, and come to such ends, as is worked out by hand: a task whose function fails, the
