@@ -1,4 +1,4 @@
--- What a part of a state's data flow answers.
+-- What a part of a state's data flow answers, the names of its errors, and which names match an error.
 use Rattle.std.specs.Prelude.{◌≡◌, Bool, ◌&&◌, ◌||◌, Result, Ok, Err, codes}
 use Rattle.std.specs.Str.{bytes_eq}
 use Rattle.asl_model.specs.Data.{Text, all_errors, task_failed}

@@ -1,7 +1,6 @@
 ghost use Rattle.std.specs.Prelude.{◌≡◌, IfOk, None, map};
-ghost use Rattle.asl_model.specs.Data.{match_error};
+ghost use Rattle.asl_model.specs.Data.{match_error, put_error};
 ghost use Rattle.asl_model.specs.Head.{Goes, retried, caught, or_fails};
-ghost use Rattle.asl_model.specs.Data.{put_error};
 ghost use Rattle.asl_model.specs.Tree.{catcher_of};
 ghost use Rattle.plain_steps.specs.Given.{is_match};
 ghost use Rattle.plain_steps.specs.Views.{onward_of};

@@ -25,3 +25,6 @@ pub use limit::limit_of;
 pub use onward::{Begun, Onward, Used};
 pub use stop::{Stop, Visited};
 pub use walking::after;
+
+#[cfg(test)]
+mod tests;

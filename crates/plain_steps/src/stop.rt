@@ -2,7 +2,7 @@ use crate::onward::Used;
 use unum_json::{Items, Json, Outcome, Text};
 
 /// What was visited in a block: its Enter, or the Task or the Join of the state of this name.
-#[derive(Drop)]
+#[derive(Clone, Copy)]
 pub enum Visited<'m> {
     Enter,
     Task(&'m Text),
