@@ -1,3 +1,5 @@
+ghost use Rattle.asl_model.specs.Shapes.{HasPathsOnly};
+
 use crate::{Begun, Onward, Stop, Used, Visited, after, begin, combine, finish, limit_of};
 use asl_model::{After, Block, Care, Catcher, MapShape, PathShape, Retrier, State, TopRule};
 use asl_paths::Path;
@@ -141,15 +143,21 @@ fn names(alloc: Global, name: &str) -> Result<Items<Text>, Fail> {
     Ok(names)
 }
 
-/// A Choice that goes to `Work` where there is `$.go`, and else to `Done`.
-fn pick(alloc: Global) -> Result<State, Fail> {
-    let shape = Shape {
+/// The data flow of a state that has no field for it.
+fn whole(alloc: Global) -> Shape
+    ensures { HasPathsOnly result }
+{
+    Shape {
         input: Some(Path::root(alloc)),
         parameters: None,
         selector: None,
         result: Some(Path::root(alloc)),
         output: Some(Path::root(alloc)),
-    };
+    }
+}
+
+/// A Choice that goes to `Work` where there is `$.go`, and else to `Done`.
+fn pick(alloc: Global) -> Result<State, Fail> {
     let rule = Rule::Test {
         variable: Path::parse(alloc, b"$.go")?,
         op: Op::IsPresent(true),
@@ -158,7 +166,7 @@ fn pick(alloc: Global) -> Result<State, Fail> {
     let next = Text::from_str(alloc, "Work")?;
     rules.push(TopRule { rule, next })?;
     Ok(State::Choice {
-        shape: PathShape::from_shape(shape),
+        shape: PathShape::from_shape(whole(alloc)),
         rules,
         default: Some(Text::from_str(alloc, "Done")?),
     })
@@ -166,15 +174,8 @@ fn pick(alloc: Global) -> Result<State, Fail> {
 
 /// A Succeed.
 fn done(alloc: Global) -> State {
-    let shape = Shape {
-        input: Some(Path::root(alloc)),
-        parameters: None,
-        selector: None,
-        result: Some(Path::root(alloc)),
-        output: Some(Path::root(alloc)),
-    };
     State::Succeed {
-        shape: PathShape::from_shape(shape),
+        shape: PathShape::from_shape(whole(alloc)),
     }
 }
 
@@ -196,15 +197,8 @@ fn care(alloc: Global) -> Result<Care, Fail> {
 
 /// A Task of the function `f`, which is followed by `Each`.
 fn work(alloc: Global) -> Result<State, Fail> {
-    let shape = Shape {
-        input: Some(Path::root(alloc)),
-        parameters: None,
-        selector: None,
-        result: Some(Path::root(alloc)),
-        output: Some(Path::root(alloc)),
-    };
     Ok(State::Task {
-        shape,
+        shape: whole(alloc),
         resource: Text::from_str(alloc, "f")?,
         after: After {
             next: Some(Text::from_str(alloc, "Each")?),
@@ -216,19 +210,12 @@ fn work(alloc: Global) -> Result<State, Fail> {
 
 /// A Map over `$.list`, two items at once, which ends its scope.
 fn each(alloc: Global) -> Result<State, Fail> {
-    let shape = Shape {
-        input: Some(Path::root(alloc)),
-        parameters: None,
-        selector: None,
-        result: Some(Path::root(alloc)),
-        output: Some(Path::root(alloc)),
-    };
     let mut states = Fields::new(alloc);
     states.insert(Text::from_str(alloc, "Leaf")?, done(alloc))?;
     let start = Text::from_str(alloc, "Leaf")?;
     let body = Boxed::new(alloc, Block { start, states })?;
     Ok(State::Map {
-        shape: MapShape::from_shape(shape),
+        shape: MapShape::from_shape(whole(alloc)),
         items: Path::parse(alloc, b"$.list")?,
         selector: None,
         body,
