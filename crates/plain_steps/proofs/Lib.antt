@@ -1,0 +1,5 @@
+pub mod Retries
+pub mod Picks
+pub mod Counts
+pub mod BeginLaw
+pub mod WalkLaw

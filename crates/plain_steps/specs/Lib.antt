@@ -1,0 +1,5 @@
+pub mod Given
+pub mod Views
+pub mod Kinds
+pub mod Finishing
+pub mod Stopping

@@ -1,0 +1,95 @@
+ghost use Rattle.std.specs.Prelude.{◌≡◌, IfOk, Result};
+ghost use Rattle.asl_model.specs.Data.{prepared, handed_on, output, put_error, error_output, named};
+ghost use Rattle.asl_shape.specs.Flow.{small};
+ghost use Rattle.plain_steps.specs.Given.{Gives};
+
+use crate::trouble::{FlowError, StateError, named};
+use asl_paths::{Path, PutError};
+use asl_shape::{Shape, post, prep};
+use std::alloc::Global;
+use unum_json::{Fields, Json, NoMemory, Text, copy, is_small};
+
+/// What a state is given: `InputPath` is applied, and then `Parameters`.
+///
+/// Source: Amazon States Language, "Input and Output Processing".
+#[tactic(auto, unfolding(asl_model::specs::Data::prepared))]
+pub fn prepare(alloc: Global, shape: &Shape, raw: &Json) -> Result<Json, FlowError>
+    ensures { Gives (λ v. v) result (prepared shape.now raw.now) }
+{
+    named(prep(alloc, shape, raw))
+}
+
+/// What a state hands on: `ResultSelector` is applied, and then `ResultPath` and `OutputPath`.
+///
+/// Source: Amazon States Language, "Input and Output Processing".
+#[tactic(auto, unfolding(asl_model::specs::Data::handed_on))]
+pub fn hand_on(alloc: Global, shape: &Shape, raw: &Json, made: &Json) -> Result<Json, FlowError>
+    ensures { Gives (λ v. v) result (handed_on shape.now raw.now made.now) }
+{
+    named(post(alloc, shape, raw, made))
+}
+
+/// A copy of a value that is small enough.
+fn small_copy(alloc: Global, value: &Json) -> Result<Json, FlowError>
+    ensures { Gives (λ v. v) result (named (small value.now)) }
+{
+    if !is_small(value) {
+        return Err(FlowError::Named(StateError::TooLarge));
+    }
+    Ok(copy(alloc, value)?)
+}
+
+/// What a Choice or a Succeed hands on: `OutputPath` alone is applied.
+///
+/// Source: Amazon States Language, "Choice State" and "Succeed State".
+#[tactic(auto, unfolding(asl_model::specs::Data::output))]
+pub fn put_out(alloc: Global, shape: &Shape, value: &Json) -> Result<Json, FlowError>
+    ensures { Gives (λ v. v) result (output shape.now value.now) }
+{
+    let Some(path) = &shape.output else {
+        return Ok(Json::Obj(Fields::new(alloc)));
+    };
+    match path.get(value) {
+        Some(found) => small_copy(alloc, found),
+        None => Err(FlowError::Named(StateError::Path)),
+    }
+}
+
+/// The Error Output of an error and its cause.
+///
+/// Source: Amazon States Language, "Fallback States".
+fn error_output(alloc: Global, error: &str, cause: &str) -> Result<Json, NoMemory>
+    ensures { IfOk result (λ v. v ≡ error_output error.now cause.now) }
+{
+    let mut fields = Fields::new(alloc);
+    let cause = Json::Str(Text::from_str(alloc, cause)?);
+    fields.insert(Text::from_str(alloc, "Cause")?, cause)?;
+    let error = Json::Str(Text::from_str(alloc, error)?);
+    fields.insert(Text::from_str(alloc, "Error")?, error)?;
+    Ok(Json::Obj(fields))
+}
+
+/// The raw data with the Error Output where a catcher's `ResultPath` leads, or the raw data alone for null.
+///
+/// Source: Amazon States Language, "Fallback States".
+#[tactic(auto, unfolding(asl_model::specs::Data::put_error))]
+pub fn put_error(
+    alloc: Global,
+    path: &Option<Path>,
+    raw: &Json,
+    error: &str,
+    cause: &str,
+) -> Result<Json, FlowError>
+    ensures { Gives (λ v. v) result (put_error path.now raw.now error.now cause.now) }
+{
+    let Some(path) = path else {
+        return small_copy(alloc, raw);
+    };
+    let output = error_output(alloc, error, cause)?;
+    match path.put(alloc, raw, &output) {
+        Ok(value) if is_small(&value) => Ok(value),
+        Ok(_) => Err(FlowError::Named(StateError::TooLarge)),
+        Err(PutError::NoPlace) => Err(FlowError::Named(StateError::ResultPath)),
+        Err(PutError::NoMemory) => Err(FlowError::NoMemory),
+    }
+}

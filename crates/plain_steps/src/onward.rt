@@ -1,0 +1,62 @@
+ghost use Rattle.std.specs.Prelude.{◌≡◌, IfOk};
+ghost use Rattle.asl_model.specs.Data.{failure};
+ghost use Rattle.asl_model.specs.Head.{leaves};
+ghost use Rattle.plain_steps.specs.Views.{onward_of};
+
+use asl_model::After;
+use std::alloc::Global;
+use unum_json::{Fault, Items, Json, NoMemory, Outcome, Text};
+
+/// How often each retrier of a state was taken.
+pub type Used = Items<u32>;
+
+/// How a state goes on.
+///
+/// Source: Amazon States Language, "Transitions".
+#[derive(Drop)]
+pub enum Onward<'m> {
+    /// To a state with its raw data and, where it is retried, the list used.
+    Goes {
+        next: &'m Text,
+        data: Json,
+        again: Option<Used>,
+    },
+    /// To the end of its scope.
+    Ends(Outcome),
+}
+
+/// What a state does first.
+///
+/// Source: Amazon States Language, "State Types".
+#[derive(Drop)]
+pub enum Begun<'m> {
+    /// It goes on.
+    On(Onward<'m>),
+    /// It calls a function with its prepared data.
+    Calls { resource: &'m Text, input: Json },
+    /// It fans out, with one input for each branch.
+    Fans(Items<Json>),
+}
+
+/// The failure with this error and this cause.
+pub fn failure(alloc: Global, error: &str, cause: &str) -> Result<Outcome, NoMemory>
+    ensures { IfOk result (λ o. o ≡ failure error.now cause.now) }
+{
+    let error = Text::from_str(alloc, error)?;
+    let cause = Text::from_str(alloc, cause)?;
+    Ok(Outcome::Failed(Fault { error, cause }))
+}
+
+/// After a state, the next one is entered, or the scope ends.
+pub fn leaves<'m>(after: &'m After, value: Json) -> Onward<'m>
+    ensures { onward_of result ≡ leaves after.now.next value }
+{
+    match &after.next {
+        Some(next) => Onward::Goes {
+            next,
+            data: value,
+            again: None,
+        },
+        None => Onward::Ends(Outcome::Done(value)),
+    }
+}
