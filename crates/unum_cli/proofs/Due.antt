@@ -14,7 +14,7 @@ use Rattle.unum_cli.specs.declared.answer.Desk.{Desk}
 use Rattle.unum_cli.specs.declared.answer.Desk.TheVariants.{Empty}
 use Rattle.unum_cli.specs.Bundles.{judged}
 use Rattle.unum_cli.specs.Words.{command}
-use Rattle.unum_cli.specs.Tool.{due, due_bytes, due_words, refusal_text, usage_text, Answers, AnswersUsage, AnswersRefusal, AnswersWorld, Wrote}
+use Rattle.unum_cli.specs.Tool.{due, due_bytes, due_words, refusal_text, usage_text, Answers, AnswersUsage, AnswersRefusal, AnswersWorld, HoldsSound, Wrote}
 
 pub each_some : {T : Type 0} (o : Option T) (P : T → Type 0) → ((x : T) → o ≡ Some x → P x) → IfSome o P
 each_some None P h = tt
@@ -82,3 +82,8 @@ whole bytes given (Some rest) max h = h.told ∙ ap (λ r. given ++ r) h.end ∙
 -- what was read is all that the source had
 pub all_given : (left new : Option (List ℕ)) (bytes given : List ℕ) (max : ℕ) → left ≡ Some bytes → GaveAll left new max given → bytes ≡ given
 all_given left new bytes given max e h = whole bytes given new max (subst (λ o. GaveAll o new max given) e h)
+
+-- nothing is on the desk
+pub empty_sound : (d : Desk) → d ≡ Empty → HoldsSound d
+unfolding HoldsSound
+empty_sound d e = subst HoldsSound (sym e) tt

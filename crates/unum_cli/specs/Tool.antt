@@ -95,7 +95,7 @@ Shows Spent desk old new = OnDesk desk (λ p. IsChosen p × IsSpent p × Appends
 Shows status desk old new = Unit {0}
 
 -- Every checkpoint of the world on the desk, if there is one, belongs to one central run of its session, and so on.
-abbrev pub HoldsSound : Desk → Type 0
+unfoldable pub HoldsSound : Desk → Type 0
 HoldsSound Empty = Unit {0}
 HoldsSound (Open w) = IsSound w
 

@@ -13,7 +13,7 @@ use crate::words::command;
 use std::alloc::Global;
 use unum_io::{ReadAll, Sink, Source, read_all, write_all};
 use unum_json::{Items, Text};
-use unum_world::{Opening, Planned, Settled};
+use unum_world::{Opening, Planned, Settled, World};
 
 /// The most bytes of a bundle.
 const MAX_BYTES: u64 = 4_194_304;
@@ -80,7 +80,18 @@ fn take_bundle<S: Source>(alloc: Global, source: &mut S) -> Result<Opening, Take
     }
 }
 
+/// Leaves a world on the desk.
+#[tactic(auto, unfolding(crate::specs::Tool::HoldsSound))]
+fn lay(desk: &mut Desk, world: World)
+    ensures laid { desk.new ≡ Desk.Open world }
+    ensures sound { HoldsSound desk.new }
+{
+    world.is_sound();
+    *desk = Desk::Open(world);
+}
+
 /// Simulates an opening, and leaves its world on the desk.
+#[tactic(auto, using(crate::proofs::Due::empty_sound))]
 fn simulate<K: Sink>(
     alloc: Global,
     opening: Opening,
@@ -101,16 +112,15 @@ fn simulate<K: Sink>(
     };
     let settled = planned.settle(alloc);
     let world = planned.into_world();
-    world.is_sound();
     let Ok(settled) = settled else {
-        *desk = Desk::Open(world);
+        lay(desk, world);
         return Status::NoMemory;
     };
     let Ok(text) = report(alloc, &world) else {
-        *desk = Desk::Open(world);
+        lay(desk, world);
         return Status::NoMemory;
     };
-    *desk = Desk::Open(world);
+    lay(desk, world);
     match settled {
         Settled::Drained => finish(out, text.as_str(), Status::Written),
         Settled::Spent => finish(out, text.as_str(), Status::Spent),
@@ -122,6 +132,7 @@ fn simulate<K: Sink>(
 /// The bytes of the source are read to their end, and refused, or else their world is settled by the plan's chooser and
 /// its report is written. The desk is empty before, and afterwards it holds the world, unless the answer is Usage,
 /// Refused or ReadFault, or memory ran out before there was one.
+#[tactic(auto, using(crate::proofs::Due::empty_sound))]
 pub fn tool<S: Source, K: Sink>(
     alloc: Global,
     words: &Items<Text>,
@@ -144,7 +155,8 @@ pub fn tool<S: Source, K: Sink>(
 
     // Whatever the bytes were and whatever happened: each checkpoint of the world on the desk belongs to one central run of
     // its session in which each task visit answers at most once, with the checkpoint that won; each ended session's outcome
-    // is that run's; and nothing is collected that an unfinished instance still reads.
+    // is that run's; nothing is collected that an unfinished instance still reads; and a session whose invocations are all
+    // acknowledged has ended.
     ensures sound { HoldsSound desk.new }
 
     // Whatever the bytes were, the text is that of the world on the desk, and the source was read to its end.
