@@ -1,8 +1,7 @@
 -- The steps by which a bundle is accepted.
-use Rattle.std.proofs.Common.{ℕ, suc, ◌+◌, ◌-◌, ◌<◌, ◌≡◌, refl, sym, ap, ◌∙◌, subst, Bool, true, false, List, Option, Some, None, arith}
+use Rattle.std.proofs.Common.{ℕ, suc, ◌+◌, ◌-◌, ◌<◌, ◌≡◌, sym, ap, subst, Bool, true, false, List, Option, Some, None, arith}
 use Rattle.unum_json.specs.declared.value.Json.{Json}
 use Rattle.unum_json.specs.Keys.{find_key}
-use Rattle.unum_world.specs.declared.opening.Opening.{Opening}
 use Rattle.unum_cli.specs.Bundles.{Members, States, members, only, given, bundle_keys, bundle_in, bundle_of, ◌>>=◌, goes_on, ends_within}
 
 bundle_by : (v : Json) (fs : Members) (b : Bool) → members v ≡ Some fs → only bundle_keys fs ≡ b → bundle_of v ≡ (given b fs >>= bundle_in)

@@ -3,11 +3,11 @@ use Rattle.std.proofs.Common.{◌≡◌, ℕ, ◌+◌, ◌<◌, List, [], ◌∷
 use Rattle.std.specs.Option.{option_map}
 use Rattle.std.specs.List.{AllByRecursion}
 use Rattle.std.specs.Map.{keys_of}
-use Rattle.std.proofs.lemmas.List.{drop_more, take_more, take-append-drop, map-append, append-nil}
+use Rattle.std.proofs.lemmas.List.{drop_more, take_more, take-append-drop, map-append}
 use Rattle.unum_json.specs.declared.value.Json.{Json}
 use Rattle.unum_json.specs.Keys.{IsRising}
 use Rattle.unum_json.proofs.Rising.{rising_front}
-use Rattle.unum_cli.specs.Bundles.{Members, each, and_then, each_item, ◌>>=◌}
+use Rattle.unum_cli.specs.Bundles.{Members, each, and_then}
 
 -- what is read, and then what is still to be read
 abbrev pub after : {A : Type 0} → List A → Option (List A) → Option (List A)
@@ -33,32 +33,6 @@ member_next f whole all i item done k x so_far lt is key e =
     ∙ ap (λ o. after done (and_then item.0 o (each f (drop (i + 1) all)))) e
     ∙ ap (λ n. after done (option_map (λ r. (n, x) ∷ r) (each f (drop (i + 1) all)))) (sym key)
     ∙ after_more done (k, x) (each f (drop (i + 1) all))
-
--- a member that is not read
-pub member_stop : {V : Type 0} (f : List ℕ → Json → Option V) (whole : Option (List (List ℕ × V))) (all : Members) (i : ℕ) (item : List ℕ × Json) (done : List (List ℕ × V)) →
-    whole ≡ after done (each f (drop i all)) → i < length all → item ≡ get_or all i item → f item.0 item.1 ≡ None → whole ≡ None
-unfolding each
-member_stop f whole all i item done so_far lt is e =
-    so_far ∙ ap (λ ms. after done (each f ms)) (rest_is all i item lt is) ∙ ap (λ o. after done (and_then item.0 o (each f (drop (i + 1) all)))) e
-
--- one more item is read, or not
-pub item_next : {A : Type 0} (f : Json → Option A) (whole : Option (List A)) (all : List Json) (i : ℕ) (item : Json) (done : List A) (x : A) →
-    whole ≡ after done (each_item f (drop i all)) → i < length all → item ≡ get_or all i item → f item ≡ Some x → whole ≡ after (done ++ x ∷ []) (each_item f (drop (i + 1) all))
-unfolding each_item
-item_next {A} f whole all i item done x so_far lt is e =
-    let P : Option A → Type 0 = λ o. after done (o >>= λ y. option_map (λ xs. y ∷ xs) (each_item f (drop (i + 1) all))) ≡ after (done ++ x ∷ []) (each_item f (drop (i + 1) all)) in
-    so_far ∙ ap (λ ms. after done (each_item f ms)) (rest_is all i item lt is) ∙ subst P (sym e) (after_more done x (each_item f (drop (i + 1) all)))
-
-pub item_stop : {A : Type 0} (f : Json → Option A) (whole : Option (List A)) (all : List Json) (i : ℕ) (item : Json) (done : List A) →
-    whole ≡ after done (each_item f (drop i all)) → i < length all → item ≡ get_or all i item → f item ≡ None → whole ≡ None
-unfolding each_item
-item_stop {A} f whole all i item done so_far lt is e =
-    let P : Option A → Type 0 = λ o. after done (o >>= λ y. option_map (λ xs. y ∷ xs) (each_item f (drop (i + 1) all))) ≡ None in
-    so_far ∙ ap (λ ms. after done (each_item f ms)) (rest_is all i item lt is) ∙ subst P (sym e) refl
-
--- at the end all is read
-pub all_read : {A : Type 0} (done : List A) → after done (Some []) ≡ Some done
-all_read done = ap Some (append-nil done)
 
 -- the keys that are read are those of the members
 pub keys_next : {V W : Type 0} (all : List (List ℕ × V)) (done : List (List ℕ × W)) (i : ℕ) (item : List ℕ × V) (k : List ℕ) (w : W) → keys_of done ≡ keys_of (take i all) → i < length all

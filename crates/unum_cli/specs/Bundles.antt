@@ -2,7 +2,7 @@
 --
 -- The form of machines is that of the Amazon States Language, "Structure of a State Machine", "Task State", "Succeed
 -- State" and "Transitions".
-use Rattle.std.specs.Prelude.{ℕ, zero, suc, ◌+◌, ◌==◌, ◌&&◌, ◌||◌, not, nat_le, nat_lt, Bool, true, false, List, [], ◌∷◌, length, codes, ℤ, pos, negsuc, Option, Some, None, Result, Ok, Err, if◌then◌else◌, option_map}
+use Rattle.std.specs.Prelude.{ℕ, zero, suc, ◌+◌, ◌==◌, ◌&&◌, ◌||◌, nat_le, nat_lt, Bool, true, false, List, [], ◌∷◌, length, codes, ℤ, pos, negsuc, Option, Some, None, Result, Ok, Err, if◌then◌else◌, option_map}
 use Rattle.std.specs.Str.{bytes_eq, chars}
 use Rattle.serde_json.specs.Data.{Data}
 use Rattle.unum_json.specs.Reading.{reading}

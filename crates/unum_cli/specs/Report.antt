@@ -1,5 +1,5 @@
 -- The report of a world.
-use Rattle.std.specs.Prelude.{ℕ, zero, suc, List, [], ◌∷◌, ◌++◌, length, slice_get, Option, Some, None, codes, decimal}
+use Rattle.std.specs.Prelude.{ℕ, zero, suc, List, [], ◌++◌, length, slice_get, Option, Some, None, codes, decimal}
 use Rattle.unum_json.specs.declared.outcome.Outcome.{Outcome}
 use Rattle.unum_json.specs.Outcome.{outcome_value}
 use Rattle.unum_json.specs.Written.{text}

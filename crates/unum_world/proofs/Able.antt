@@ -1,5 +1,5 @@
 -- What a live attempt of a chain does next.
-use Rattle.std.proofs.Common.{ℕ, ◌≡◌, ◌⊎◌, inl, inr, refl, ◌∙◌, subst, Bool, true, false, slice_get, Option, Some}
+use Rattle.std.proofs.Common.{ℕ, ◌≡◌, ◌⊎◌, inl, inr, refl, ◌∙◌, subst, Bool, true, slice_get, Some}
 use Rattle.std.proofs.lemmas.Bool.{true≢false, and_from}
 use Rattle.asl_model.specs.declared.machine.Machine.{Machine}
 use Rattle.unum_world.specs.declared.phase.Phase.{Phase}
@@ -10,7 +10,7 @@ use Rattle.unum_world.specs.declared.queue.AttState.{AttState}
 use Rattle.unum_world.specs.Stretch.{call_of}
 use Rattle.unum_world.specs.Program.{acts, due, next_of, is_do, is_call}
 use Rattle.unum_world.specs.Worlds.{World, can_step, can_answer}
-use Rattle.unum_world.specs.Chained.{IsPhase, Placed, Chained}
+use Rattle.unum_world.specs.Chained.{IsPhase, Chained}
 use Rattle.unum_world.specs.Plain.{IsPlainPhase, IsPlain}
 use Rattle.unum_world.proofs.Chained.{placed}
 use Rattle.unum_world.proofs.Plain.{has_act, has_mark, is_asked}

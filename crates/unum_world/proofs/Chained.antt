@@ -1,13 +1,12 @@
 -- What every world of chains keeps: its invocations, attempts and phases are a chain's.
-use Rattle.std.proofs.Common.{ℕ, zero, suc, ◌+◌, ◌-◌, ◌<◌, ◌≤◌, ◌≡◌, ◌≢◌, ◌⊎◌, inl, inr, refl, sym, ap, ◌∙◌, subst, arith, Bool, true, false, nat_eq, nat_lt, cond, List, [], ◌∷◌, length, slice_get, slice_set, Option, Some, None, length-append}
+use Rattle.std.proofs.Common.{ℕ, zero, suc, ◌+◌, ◌<◌, ◌≤◌, ◌≡◌, inl, inr, refl, sym, ap, ◌∙◌, subst, arith, Bool, true, false, nat_lt, List, [], ◌∷◌, length, slice_get, slice_set, Option, Some, None, length-append}
 use Rattle.std.specs.Prelude.{IsFalse}
 use Rattle.std.specs.List.{AllByRecursion}
 use Rattle.std.proofs.lemmas.Option.{same_Some, slice_get_within}
 use Rattle.std.proofs.lemmas.List.{length-set}
-use Rattle.std.proofs.lemmas.Bool.{ltb-true, true≢false, and_from}
+use Rattle.std.proofs.lemmas.Bool.{ltb-true, true≢false}
 use Rattle.unum_json.specs.declared.value.Json.{Json}
 use Rattle.unum_json.specs.declared.outcome.Outcome.{Outcome}
-use Rattle.unum_json.specs.declared.outcome.Outcome.TheVariants.{Done, Failed}
 use Rattle.place_name.specs.declared.kind.Kind.{Kind}
 use Rattle.place_name.specs.declared.kind.Kind.TheVariants as kind
 use Rattle.place_name.specs.declared.obj.Obj.{Obj}
@@ -35,18 +34,17 @@ use Rattle.unum_world.specs.declared.operation.Op.{Op}
 use Rattle.unum_world.specs.declared.operation.Op.TheVariants as op
 use Rattle.unum_world.specs.declared.operation.Reply.{Reply}
 use Rattle.unum_world.specs.declared.operation.Reply.TheVariants as reply
-use Rattle.world_model.specs.Operations
 use Rattle.world_model.specs.Acts.{parent_of, due_enter, due_of}
-use Rattle.unum_world.specs.Stretch.{Used, call_of, join_around}
+use Rattle.unum_world.specs.Stretch.{call_of, join_around}
 use Rattle.unum_world.specs.Links.{IsChain}
-use Rattle.unum_world.specs.Program.{end_ops, acts_of, stop_of, acts, due, branch_input, next_of, doing_op, marking, calling, gathers, adopted, after_look, enters_with, read_as, after_data, after_create, next_act, after_set, after_act, after_mark, has_more, absorbed, answered, is_do, is_call}
-use Rattle.unum_world.specs.Worlds.{Holds, Queued, World, machine_of, machine_at, root_inv, root_invs, root_states, fresh, perform, over, over_live, ended_try, changed, ack_state, crash_state, dead_state, try_state, tick_att, ticked, first_try, reply_to, planned_by, by_plan, carried, by_answer, delivered, given_up_in, asked, can_step, can_answer, effect, run, start}
+use Rattle.unum_world.specs.Program.{end_ops, acts_of, stop_of, acts, due, branch_input, next_of, doing_op, marking, calling, gathers, adopted, after_look, enters_with, read_as, after_data, after_create, next_act, after_set, after_act, after_mark, has_more, absorbed, answered}
+use Rattle.unum_world.specs.Worlds.{Holds, Queued, World, machine_of, machine_at, root_inv, root_invs, root_states, fresh, perform, over, over_live, ended_try, changed, ack_state, crash_state, dead_state, try_state, tick_att, ticked, first_try, reply_to, planned_by, by_plan, carried, by_answer, delivered, given_up_in, asked, effect, run, start}
 use Rattle.unum_world.specs.Plain.{IsPlainKind}
 use Rattle.unum_world.specs.Seen.{Fits}
 use Rattle.unum_world.specs.Chained.{IsChained, IsPhase, Placed, Chaining, Chained}
 use Rattle.world_model.proofs.Gets.{get_set}
 use Rattle.unum_world.proofs.Lists.{get_some, get_old, get_last, get_set_same, get_changed, all_get}
-use Rattle.unum_world.proofs.Runs.{run_keeps, at_rule, at_is}
+use Rattle.unum_world.proofs.Runs.{run_keeps, at_rule}
 use Rattle.unum_world.proofs.Bounds.{length_at, over_rule}
 use Rattle.unum_world.proofs.Links.{IsStop, after_ok}
 
@@ -580,7 +578,3 @@ placed w a t C e =
     let ph = get_some w.phases a (omega arith) in
     let c = C.invocations t.inv i.0 i.1 in
     (c.machine, i.0, ph.0, record { attempt = e; invocation = i.1; phase = ph.1; machine = c.machine_is })
-
-pub not_none : {A : Type 0} (x : Option A) → x ≢ None → (y : A) × (x ≡ Some y)
-not_none None h = absurd (h refl)
-not_none (Some y) h = (y, refl)

@@ -127,9 +127,6 @@ picked (x ∷ xs) p len e =
 pub unchosen : (p : Past) → chosen_event p ≡ None → allowed (now p) ≡ []
 unchosen p e = picked (allowed (now p)) p.opening.plan (length p.history) e
 
-pub chosen_some : (p : Past) → 0 < length (allowed (now p)) → (e : Event) × (chosen_event p ≡ Some e)
-chosen_some p h = get_some (allowed (now p)) (pick p.opening.plan (length p.history) (length (allowed (now p)))) (pick_below p.opening.plan (length p.history) (length (allowed (now p))) h)
-
 -- ---------------------------------------------------------------- choices
 
 chosen_step : (n : ℕ) (p : Past) (e : Event) →

@@ -19,7 +19,7 @@ use Rattle.unum_world.proofs.Able.{able}
 use Rattle.unum_world.proofs.Chained.{run_chained}
 use Rattle.unum_world.proofs.PlainRuns.{run_plain}
 use Rattle.unum_world.proofs.Lives.{none_lives, run_lives}
-use Rattle.unum_world.proofs.Choices.{From, from_all, from_here, from_next, now_run, allowed_enabled, unchosen}
+use Rattle.unum_world.proofs.Choices.{From, from_all, from_here, from_next, now_run, unchosen}
 
 -- ---------------------------------------------------------------- parts of a list with no element
 
@@ -116,14 +116,6 @@ drained_world w C c q (GiveUp i) = state_false can_give_up (slice_get w.hub.queu
 -- where nothing is allowed after a run, nothing is enabled
 pub run_drained : (o : Opening) (most : ℕ) (es : List Event) (w : World) → Fits o most → run o es ≡ Some w → allowed w ≡ [] → IsDrained w
 run_drained o most es w F e q = drained_world w (run_chained o most es w F e, run_plain o most es w F e) (λ k s z. run_lives o es w k s e z) q
-
--- and where nothing is enabled, nothing is allowed
-pub drained_none : (w : World) → IsDrained w → allowed w ≡ []
-drained_none w d = go (allowed w) (λ e q. allowed_enabled w e 0 q)
-  where
-    go : (xs : List Event) → ((e : Event) → slice_get xs 0 ≡ Some e → enabled w e ≡ true) → xs ≡ []
-    go [] f = refl
-    go (x ∷ xs) f = absurd (true≢false (sym (f x refl) ∙ d x))
 
 -- where the chooser chooses nothing, nothing is enabled
 pub unchosen_drained : (p : Past) (most : ℕ) (w : World) → Fits p.opening most → run p.opening p.history ≡ Some w → chosen_event p ≡ None → IsDrained (now p)

@@ -1,5 +1,5 @@
 -- Where a chain stops, and what its Tasks call, by the definitions of whole machines.
-use Rattle.std.proofs.Common.{ℕ, zero, suc, ◌+◌, ◌-◌, ◌<◌, ◌≤◌, ◌≡◌, refl, sym, ap, ◌∙◌, subst, arith, Bool, true, false, nat_lt, nat_eq, cond, if◌then◌else◌, List, [], ◌∷◌, length, slice_get, map, Option, Some, None, Result, Ok, Err, add-one}
+use Rattle.std.proofs.Common.{ℕ, zero, suc, ◌+◌, ◌-◌, ◌<◌, ◌≤◌, ◌≡◌, refl, sym, ap, ◌∙◌, subst, arith, Bool, true, false, nat_lt, nat_eq, cond, if◌then◌else◌, List, [], ◌∷◌, length, slice_get, map, Option, Some, None, Ok, Err}
 use Rattle.std.specs.Prelude.{option_map, IsSome}
 use Rattle.std.specs.Borrow.{Bor}
 use Rattle.std.specs.Str.{bytes_eq}
@@ -8,29 +8,28 @@ use Rattle.std.proofs.lemmas.Bool.{ltb-true, ltb-false}
 use Rattle.std.proofs.lemmas.Option.{same_Some, slice_get_within}
 use Rattle.unum_json.specs.Tree.{is_small}
 use Rattle.asl_shape.specs.Stages.{Stages}
-use Rattle.asl_shape.specs.Flow.{small, filled_if, found_by, and_then}
-use Rattle.asl_shape.specs.declared.trouble.ShapeError.{ShapeError}
+use Rattle.asl_shape.specs.Flow.{filled_if, found_by, and_then}
 use Rattle.asl_shape.specs.declared.trouble.ShapeError.TheVariants as error
 use Rattle.asl_model.specs.declared.machine.Machine.{Machine}
 use Rattle.asl_model.specs.declared.machine.State as declared
-use Rattle.asl_model.specs.Data.{Text, Json, Fault, Outcome, Done, Failed, Made, named, failure, hop_limit_error, no_state_error, data_limit, prepared, handed_on, output, same_text}
-use Rattle.asl_model.specs.Head.{bare, OnwardOf, Goes, Ends, BegunOf, Calls, On, or_caught, or_fails, leaves, leaves_or_caught}
+use Rattle.asl_model.specs.Data.{Text, Json, Fault, Outcome, Done, Failed, Made, named, hop_limit_error, data_limit, prepared, handed_on, output, same_text}
+use Rattle.asl_model.specs.Head.{bare, Ends, Calls, On, or_caught, or_fails, leaves, leaves_or_caught}
 use Rattle.asl_model.specs.declared.machine.After.{After}
-use Rattle.asl_model.specs.Machine.{State, Task, Pass, Choice, Succeed, Fail, Parallel, Map, Care, state_of, find_state, States, no_state, and_state, start_of, states_of}
-use Rattle.asl_model.specs.Step.{Ways, Onward, Begun, standard}
+use Rattle.asl_model.specs.Machine.{State, Task, Pass, Choice, Succeed, Fail, Parallel, Map, Care, state_of, find_state, start_of, states_of}
+use Rattle.asl_model.specs.Step.{Onward, Begun, standard}
 use Rattle.asl_model.specs.Central.{hop_limit}
 use Rattle.asl_model.specs.Stretch as model
-use Rattle.asl_model.specs.Tree.{state_tree, block_tree, tree_of, states_from}
+use Rattle.asl_model.specs.Tree.{state_tree, tree_of, states_from}
 use Rattle.asl_model.proofs.Trees.{row, block_tree-out}
 use Rattle.std.proofs.Math.Dec.{eqb-suc-zero}
 use Rattle.std.proofs.lemmas.Slice.Eq.{bytes_eq-Decides}
 use Rattle.asl_model.proofs.Found.{same_text_itself}
-use Rattle.world_model.specs.Operations.{Spot, OnEnter, OnTask, visited_at}
+use Rattle.world_model.specs.Operations.{visited_at}
 use Rattle.world_model.specs.Acts.{rules}
 use Rattle.world_model.specs.Program as program
 use Rattle.unum_world.specs.declared.stops.Stop.{Stop}
 use Rattle.unum_world.specs.declared.stops.Stop.TheVariants.{Call, Fan, End}
-use Rattle.unum_world.specs.Stretch.{Used, find_from, find, number_in, number_of, name_in, task_name, spot_by, spot_of, site_of, by_number, after, call_of}
+use Rattle.unum_world.specs.Stretch.{Used, find_from, find, number_in, number_of, name_in, task_name, spot_by, by_number, after, call_of}
 use Rattle.unum_world.specs.Plain.{IsPlainStop}
 use Rattle.unum_world.specs.Links.{bare_shape, IsLink, IsChain, fails, link_stop, link_in, link_from, link_on, link_done, link_after, resource_in, resource_by, resource_at}
 

@@ -219,8 +219,3 @@ run_counted o es w e = run_keeps World_counted (λ v x b C. counted_effect v x C
 -- the count of an invocation is the number of its live attempts
 pub run_lives : (o : Opening) (es : List Event) (w : World) (k : ℕ) (s : InvState) → run o es ≡ Some w → slice_get w.hub.queue.states k ≡ Some s → s.live ≡ live_among k w.hub.queue.atts
 run_lives o es w k s r e = let C : World_counted w = run_counted o es w r in C.counts k s e
-
--- so where it is not 0, some attempt of it lives
-pub run_live : (o : Opening) (es : List Event) (w : World) (k : ℕ) (s : InvState) → run o es ≡ Some w → slice_get w.hub.queue.states k ≡ Some s → s.live ≢ 0 →
-    (a : ℕ) × (t : AttState) × (slice_get w.hub.queue.atts a ≡ Some t) × (t.live ≡ true) × (t.inv ≡ k)
-run_live o es w k s r e h = some_lives k w.hub.queue.atts (λ z. h (run_lives o es w k s r e ∙ z))

@@ -1,9 +1,8 @@
 -- What a step of an attempt is, with its machine, its invocation and its phase.
-use Rattle.std.proofs.Common.{ℕ, ◌≡◌, refl, sym, ap, ◌∙◌, subst, Bool, true, false, Option, Some, None, Result, Ok, Err}
+use Rattle.std.proofs.Common.{ℕ, ◌≡◌, refl, sym, ap, ◌∙◌, subst, false, Option, Some, None, Result, Ok, Err}
 use Rattle.std.specs.Prelude.{OnOk, OnErr, IsTrue}
 use Rattle.std.proofs.lemmas.Option.{same_Some}
 use Rattle.asl_model.specs.declared.machine.Machine.{Machine}
-use Rattle.unum_world.specs.declared.operation.Op.{Op}
 use Rattle.unum_world.specs.declared.phase.Phase.{Phase}
 use Rattle.unum_world.specs.declared.phase.Next.{Next}
 use Rattle.unum_world.specs.declared.phase.Next.TheVariants as doing

@@ -1,25 +1,23 @@
 -- What a chain's instance does.
-use Rattle.std.proofs.Common.{ℕ, zero, suc, ◌≡◌, refl, sym, ap, ◌∙◌, subst, ◌<◌, Bool, true, false, List, [], ◌∷◌, ◌+◌, nat_lt, length, slice_get, Option, Some, None, arith}
+use Rattle.std.proofs.Common.{ℕ, zero, suc, ◌≡◌, refl, sym, ap, ◌∙◌, subst, ◌<◌, Bool, true, List, [], ◌∷◌, ◌+◌, nat_lt, length, slice_get, Option, Some, None, arith}
 use Rattle.std.specs.Prelude.{option_map, IsSome, IsTrue}
 use Rattle.unum_json.specs.declared.value.Json.{Json}
 use Rattle.place_name.specs.declared.kind.Kind.{Kind}
 use Rattle.place_name.specs.declared.kind.Kind.TheVariants as kind
 use Rattle.place_name.specs.declared.obj.Obj.{Obj}
 use Rattle.place_name.specs.declared.obj.Obj.TheVariants as obj
-use Rattle.place_name.specs.Names.{Seg, Scope, Place, Name, Parent, scope_of}
+use Rattle.place_name.specs.Names.{Scope, Name, Parent, scope_of}
 use Rattle.asl_model.specs.declared.machine.Machine.{Machine}
 use Rattle.unum_world.specs.declared.held.Kept.{Kept}
 use Rattle.unum_world.specs.declared.stops.Stop.{Stop}
 use Rattle.unum_world.specs.declared.stops.Stop.TheVariants.{Call, Fan, End}
 use Rattle.unum_world.specs.declared.operation.Op.{Op}
 use Rattle.unum_world.specs.declared.operation.Op.TheVariants as op
-use Rattle.unum_world.specs.declared.phase.Phase.{Phase}
 use Rattle.unum_world.specs.declared.phase.Phase.TheVariants as phase
-use Rattle.unum_world.specs.declared.phase.Next.{Next}
 use Rattle.unum_world.specs.declared.planned.PlannedStep.{PlannedStep}
 use Rattle.unum_world.specs.declared.queue.Invocation.{Invocation}
 use Rattle.world_model.specs.Acts.{parent_of, due_of, due_enter}
-use Rattle.unum_world.specs.Program.{due, acts, acts_of, end_ops, source, source_of, stop_of, doing_op, marking, calling, is_do, is_call, next_takes_memory}
+use Rattle.unum_world.specs.Program.{due, acts, acts_of, source, source_of, stop_of, doing_op, marking, calling, is_do, is_call, next_takes_memory}
 use Rattle.unum_world.specs.Worlds.{planned_by}
 use Rattle.std.specs.List.{AllByRecursion}
 use Rattle.unum_world.specs.declared.opening.Session.{Session}
@@ -106,21 +104,9 @@ has_mark [] at h = absurd (omega arith)
 has_mark (x ∷ xs) zero h = refl
 has_mark (x ∷ xs) (suc n) h = has_mark xs n (omega arith)
 
-pub no_call_act : (x : Option Op) → is_call (doing_op x) ≡ false
-no_call_act None = refl
-no_call_act (Some o) = refl
-
-pub no_call_mark : (x : Option Obj) → is_call (marking x) ≡ false
-no_call_mark None = refl
-no_call_mark (Some o) = refl
-
 pub is_asked : (x : Option (List ℕ × Json)) → IsSome x → is_call (calling x) ≡ true
 is_asked None h = absurd (cc)
 is_asked (Some c) h = refl
-
-pub no_do_call : (x : Option (List ℕ × Json)) → is_do (calling x) ≡ false
-no_do_call None = refl
-no_do_call (Some c) = refl
 
 -- each act of a chain's instance may take memory
 plain_memory : (n : Name) (s : Stop) (at : ℕ) → IsPlainStop s → IsTrue (next_takes_memory (doing_op (slice_get (plain_acts n s) at)))

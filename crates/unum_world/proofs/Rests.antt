@@ -1,5 +1,5 @@
 -- Lists from an index on, and the last attempt of an invocation.
-use Rattle.std.proofs.Common.{ℕ, zero, suc, ◌+◌, ◌<◌, ◌≡◌, refl, sym, ap, ◌∙◌, Bool, true, false, nat_eq, cond, List, [], ◌∷◌, drop, length, Option, Some, None, arith}
+use Rattle.std.proofs.Common.{ℕ, zero, suc, ◌+◌, ◌<◌, ◌≡◌, refl, sym, ap, ◌∙◌, List, [], ◌∷◌, drop, length, Option, arith}
 use Rattle.unum_world.specs.declared.queue.AttState.{AttState}
 use Rattle.unum_world.specs.Latest.{or_found}
 use Rattle.unum_world.specs.Plans.{latest, or_here}

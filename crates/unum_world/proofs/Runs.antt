@@ -40,16 +40,6 @@ pub run_keeps : (P : World → Type 0) → ((w : World) (e : Event) → enabled 
     (o : Opening) (es : List Event) (w : World) → P (start o) → run o es ≡ Some w → P w
 run_keeps P step o es w p e = run_counts (λ n v. P v) (λ n v x b q. step v x b q) es (start o) w 0 p e
 
--- the same from any world on
-pub run_on : (P : World → Type 0) → ((w : World) (e : Event) → enabled w e ≡ true → P w → P (effect w e)) →
-    (es : List Event) (v w : World) → P v → run_from (Some v) es ≡ Some w → P w
-run_on P step es v w p e = run_counts (λ n u. P u) (λ n u x b q. step u x b q) es v w 0 p e
-
-pub run_append : (w : Option World) (es fs : List Event) → run_from w (es ++ fs) ≡ run_from (run_from w es) fs
-unfolding run_from
-run_append w [] fs = refl
-run_append w (x ∷ es) fs = run_append (then_event w x) es fs
-
 pub run_more : (w : Option World) (es : List Event) (e : Event) → run_from w (es ++ e ∷ []) ≡ then_event (run_from w es) e
 unfolding run_from
 run_more w [] e = refl

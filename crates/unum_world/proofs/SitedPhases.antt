@@ -1,5 +1,5 @@
 -- The program of a chain's instance, with its site in place of its function's number.
-use Rattle.std.proofs.Common.{ℕ, zero, suc, ◌+◌, ◌-◌, ◌<◌, ◌≤◌, ◌≡◌, refl, sym, ap, ◌∙◌, subst, arith, Bool, true, false, nat_lt, nat_eq, cond, List, [], ◌∷◌, length, map, slice_get, Option, Some, None, option_map}
+use Rattle.std.proofs.Common.{ℕ, zero, suc, ◌+◌, ◌-◌, ◌<◌, ◌≤◌, ◌≡◌, refl, sym, ap, ◌∙◌, subst, arith, Bool, true, false, nat_lt, cond, List, [], ◌∷◌, length, map, slice_get, Option, Some, None, option_map}
 use Rattle.std.proofs.lemmas.Option.{same_Some, slice_get-map}
 use Rattle.std.proofs.Math.Dec.{eqb-suc-zero}
 use Rattle.std.proofs.lemmas.List.{length-map}
@@ -8,7 +8,7 @@ use Rattle.place_name.specs.declared.kind.Kind.{Kind}
 use Rattle.place_name.specs.declared.kind.Kind.TheVariants as kind
 use Rattle.place_name.specs.declared.obj.Obj.{Obj}
 use Rattle.place_name.specs.declared.obj.Obj.TheVariants as obj
-use Rattle.place_name.specs.Names.{Scope, Name, Parent, scope_of}
+use Rattle.place_name.specs.Names.{Name, Parent, scope_of}
 use Rattle.asl_model.specs.declared.machine.Machine.{Machine}
 use Rattle.asl_model.specs.Data.{Text}
 use Rattle.asl_model.specs.Tree.{tree_of}
@@ -34,11 +34,11 @@ use Rattle.unum_world.specs.declared.phase.Next.{Next}
 use Rattle.unum_world.specs.declared.phase.Next.TheVariants as doing
 use Rattle.unum_world.specs.declared.queue.Invocation.{Invocation}
 use Rattle.unum_world.specs.Stretch.{number_of, name_in, spot_by, spot_of, site_of, by_number, after, call_of, join_around}
-use Rattle.unum_world.specs.Program.{acts, acts_of, end_ops, stop_of, due, source, source_of, kept_of, next_of, doing_op, marking, calling, gathers, adopted, after_look, read_as, after_data, after_create, next_act, after_act, after_mark, has_more, absorbed}
+use Rattle.unum_world.specs.Program.{acts, acts_of, end_ops, due, source, source_of, next_of, doing_op, marking, calling, gathers, adopted, after_look, read_as, after_data, after_create, next_act, after_act, after_mark, has_more, absorbed}
 use Rattle.unum_world.specs.Worlds.{Holds, machine_of, look_reply, create_reply, mark_reply, ack_reply, lives, reply_to}
 use Rattle.unum_world.specs.Links.{IsChain}
 use Rattle.unum_world.specs.Chained.{IsSite, IsChained, IsPhase}
-use Rattle.unum_world.specs.Sited.{site_at, invocation_as, kept_as, held_as, condition_as, phase_as}
+use Rattle.unum_world.specs.Sited.{site_at, invocation_as, kept_as, held_as, phase_as}
 use Rattle.unum_world.proofs.Links.{IsStop, number_named, after_ok}
 use Rattle.unum_world.proofs.Chained.{IsOp, chain_is, parent_none}
 use Rattle.unum_world.proofs.Lists.{get_some}

@@ -2,10 +2,8 @@
 use Rattle.std.proofs.lemmas.Option.{slice_get-map}
 use Rattle.std.proofs.Common.{ℕ, ◌<◌, length, ◌≡◌, refl, sym, ap, ◌∙◌, subst, Bool, true, false, cond, List, [], ◌∷◌, map, slice_get, Option, Some, None, option_map}
 use Rattle.std.specs.Prelude.{IsSome}
-use Rattle.asl_model.specs.Data.{Text, Json}
+use Rattle.asl_model.specs.Data.{Json}
 use Rattle.asl_model.specs.declared.machine.Machine.{Machine}
-use Rattle.world_model.specs.Operations as model
-use Rattle.world_model.specs.Program as program
 use Rattle.world_model.specs.World as worlds
 use Rattle.world_model.specs.Drained.{Is_drained}
 use Rattle.world_model.specs.Asking.{Is_calling}
@@ -22,13 +20,13 @@ use Rattle.unum_world.specs.declared.queue.Invocation.{Invocation}
 use Rattle.unum_world.specs.declared.queue.AttState.{AttState}
 use Rattle.unum_world.specs.declared.queue.Event.{Event}
 use Rattle.unum_world.specs.declared.queue.Event.TheVariants.{Deliver, Crash, Step, Answer, GiveUp}
-use Rattle.unum_world.specs.Stretch.{Used, site_of, call_of}
+use Rattle.unum_world.specs.Stretch.{Used, call_of}
 use Rattle.unum_world.specs.Worlds.{World, enabled, effect, run_from, run, start}
 use Rattle.unum_world.specs.Plain.{IsPlainPhase}
-use Rattle.unum_world.specs.Seen.{Past, now, Fits}
+use Rattle.unum_world.specs.Seen.{Past, Fits}
 use Rattle.unum_world.specs.Sound.{Sound, IsSound}
 use Rattle.unum_world.specs.Chained.{Placed, Chained, IsDrained}
-use Rattle.unum_world.specs.Sited.{session_as, opening_as, invocation_as, attempt_as, phase_as, event_as, sited}
+use Rattle.unum_world.specs.Sited.{session_as, opening_as, attempt_as, phase_as, event_as, sited}
 use Rattle.unum_world.proofs.Bounds.{run_opening}
 use Rattle.unum_world.proofs.Lists.{get_some}
 use Rattle.unum_world.proofs.Runs.{run_none}

@@ -1,9 +1,8 @@
 -- The opening world, with sites in place of numbers.
-use Rattle.std.proofs.Common.{ℕ, zero, suc, ◌+◌, ◌<◌, ◌≤◌, ◌≡◌, refl, sym, ap, ◌∙◌, subst, arith, Bool, true, false, cond, List, [], ◌∷◌, map, slice_get, Option, Some, None}
+use Rattle.std.proofs.Common.{ℕ, suc, ◌+◌, ◌<◌, ◌≤◌, ◌≡◌, refl, sym, ap, ◌∙◌, subst, arith, Bool, true, false, cond, List, [], ◌∷◌, map, slice_get, Option, Some, None}
 use mathlib.Core.Path.{fun_ext}
 use Rattle.place_name.specs.declared.obj.Obj.{Obj}
 use Rattle.place_name.specs.declared.obj.Obj.TheVariants as obj
-use Rattle.place_name.specs.Names.{Name}
 use Rattle.place_name.specs.Same.{object_same}
 use Rattle.place_name.proofs.Sameness.{object_decides}
 use Rattle.asl_model.specs.declared.machine.Machine.{Machine}

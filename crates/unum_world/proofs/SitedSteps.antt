@@ -1,15 +1,14 @@
 -- Each event of a world of chains, with sites in place of numbers.
-use Rattle.std.proofs.Common.{ℕ, zero, suc, ◌+◌, ◌-◌, ◌<◌, ◌≡◌, ◌⊎◌, inl, inr, refl, sym, ap, ◌∙◌, subst, arith, Bool, true, false, ◌&&◌, not, nat_lt, nat_eq, cond, List, [], ◌∷◌, ◌++◌, length, map, slice_get, slice_set, Option, Some, None, option_map, append-nil}
+use Rattle.std.proofs.Common.{ℕ, suc, ◌+◌, ◌≡◌, ◌⊎◌, inl, inr, refl, sym, ap, ◌∙◌, subst, arith, Bool, true, false, ◌&&◌, not, nat_lt, nat_eq, cond, List, [], ◌∷◌, ◌++◌, map, slice_get, slice_set, Option, Some, None, option_map, append-nil}
 use mathlib.Core.Path.{fun_ext}
-use Rattle.std.proofs.lemmas.Option.{same_Some, slice_get-map, slice_get_within}
+use Rattle.std.proofs.lemmas.Option.{slice_get-map}
 use Rattle.std.proofs.lemmas.List.{map-append}
-use Rattle.std.proofs.lemmas.Bool.{true≢false}
 use Rattle.unum_json.specs.Keys.{find_key}
 use Rattle.place_name.specs.declared.obj.Obj.{Obj}
 use Rattle.place_name.specs.declared.obj.Obj.TheVariants as obj
 use Rattle.place_name.specs.Same.{object_same}
 use Rattle.fn_table.specs.declared.kind.FnKind.{FnKind}
-use Rattle.fn_table.specs.Answers.{answer, Asked}
+use Rattle.fn_table.specs.Answers.{answer}
 use Rattle.asl_model.specs.Data.{Text, Json, Outcome}
 use Rattle.asl_model.specs.declared.machine.Machine.{Machine}
 use Rattle.world_model.specs.Operations as model
@@ -24,7 +23,6 @@ use Rattle.unum_world.specs.declared.moment.Entry.{Entry}
 use Rattle.unum_world.specs.declared.operation.Op.{Op}
 use Rattle.unum_world.specs.declared.operation.Op.TheVariants as op
 use Rattle.unum_world.specs.declared.operation.Reply.{Reply}
-use Rattle.unum_world.specs.declared.operation.Reply.TheVariants as reply
 use Rattle.unum_world.specs.declared.opening.Opening.{Opening}
 use Rattle.unum_world.specs.declared.phase.Phase.{Phase}
 use Rattle.unum_world.specs.declared.phase.Phase.TheVariants as phase
@@ -44,10 +42,10 @@ use Rattle.unum_world.specs.Stretch.{call_of, join_around}
 use Rattle.unum_world.specs.Links.{IsChain}
 use Rattle.unum_world.proofs.Lists.{all_get}
 use Rattle.unum_world.proofs.Links.{IsStop, after_ok}
-use Rattle.unum_world.specs.Program.{acts, acts_of, end_ops, stop_of, due, source, next_of, doing_op, marking, calling, has_more, absorbed, answered, is_do, is_call}
-use Rattle.unum_world.specs.Worlds.{Objects, Holds, Queued, World, put, created, marked, look_reply, create_reply, mark_reply, ack_reply, reply_to, lives, over, over_live, ended_try, changed, at, ack_state, crash_state, dead_state, try_state, tick_att, ticked, first_try, fresh, perform, entry_of, won, won_if, is_won, planned_by, by_plan, carried, by_answer, asked_kind, asked_by, with_it, at_attempt, asked, stepped, delivered, given_up_in, with_queue, state_lets, can_deliver, can_give_up, can_step, can_answer, effect, enabled, machine_of}
-use Rattle.unum_world.specs.Chained.{IsPhase, IsChained, Placed, Chaining, Chained}
-use Rattle.unum_world.specs.Sited.{opening_as, invocation_as, state_as, kept_as, held_as, condition_as, phase_as, attempt_as, attempts_as, entry_as, event_as, sited}
+use Rattle.unum_world.specs.Program.{acts, acts_of, end_ops, stop_of, due, source, next_of, marking, calling, has_more, absorbed, answered, is_do, is_call}
+use Rattle.unum_world.specs.Worlds.{Objects, Queued, World, put, created, marked, look_reply, create_reply, mark_reply, ack_reply, reply_to, lives, over, over_live, ended_try, changed, at, ack_state, crash_state, dead_state, try_state, tick_att, ticked, first_try, fresh, perform, entry_of, won, won_if, planned_by, by_plan, carried, by_answer, asked_kind, asked_by, with_it, at_attempt, asked, stepped, delivered, with_queue, state_lets, can_deliver, can_give_up, effect, enabled, machine_of}
+use Rattle.unum_world.specs.Chained.{IsPhase, Placed, Chained}
+use Rattle.unum_world.specs.Sited.{opening_as, invocation_as, state_as, held_as, condition_as, phase_as, attempt_as, attempts_as, entry_as, event_as, sited}
 use Rattle.unum_world.proofs.Runs.{at_is}
 use Rattle.unum_world.proofs.Chained.{IsOp, do_same, next_at, next_ok, placed, parent_none}
 use Rattle.unum_world.proofs.SitedPhases.{op_as, reply_as, doing_as, At_site, at_site, here, found_site, next_as, absorbed_as}
@@ -93,12 +91,6 @@ states_at ss i f g h (Some s) e = map_set state_as ss i (f s) ∙ ap (slice_set 
 won_false : (e : Option Entry) → won_if false e ≡ []
 won_false None = refl
 won_false (Some e) = refl
-
-won_none : (b : Bool) → won_if b None ≡ []
-won_none b = refl
-
-other_won : (x : Obj) (h : code.Held) (a : ℕ) → worlds.entries_of x (held_as h) a ≡ [] → entry_of (op.Create x h) a ≡ None → map entry_as (won_if true (entry_of (op.Create x h) a)) ≡ worlds.entries_of x (held_as h) a
-other_won x h a e q = ap (λ z. map entry_as (won_if true z)) q ∙ sym e
 
 -- the entry of a Create that wins
 won_as : (x : Obj) (h : code.Held) (a : ℕ) → map entry_as (won_if true (entry_of (op.Create x h) a)) ≡ worlds.entries_of x (held_as h) a
@@ -278,9 +270,6 @@ module _ (w : World) (m : Machine) (t : AttState) (i : Invocation) (ph : Phase) 
   attempt_found = zip_get w.hub.queue.atts w.phases a t ph p.attempt p.phase
 
   -- what the attempt is after a step
-  moved_to : Bool → program.Phase → worlds.Attempt
-  moved_to b n = record { inv = t.inv; live = b; steps = suc t.steps; phase = n }
-
   moved_is : (b c : Bool) (ph2 : Phase) (n : program.Phase) → b ≡ c → phase_as ph2 ≡ n → attempt_as (record { inv = t.inv; live = b; steps = t.steps + 1 }) ph2 ≡ record { inv = t.inv; live = c; steps = suc t.steps; phase = n }
   moved_is b c ph2 n e q =
       let z : t.steps + 1 ≡ suc t.steps = omega arith in

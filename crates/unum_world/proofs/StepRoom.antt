@@ -1,11 +1,10 @@
 -- An operation leaves the steps of each attempt as they were.
-use Rattle.std.proofs.Common.{ℕ, ◌<◌, ◌≡◌, inl, inr, refl, sym, subst, Bool, true, false, List, slice_get, Option, Some, None}
+use Rattle.std.proofs.Common.{ℕ, ◌≡◌, inl, inr, refl, sym, subst, Bool, true, false, List, slice_get, Option, Some, None}
 use Rattle.unum_world.specs.declared.queue.AttState.{AttState}
 use Rattle.unum_world.specs.declared.queue.InvState.{InvState}
 use Rattle.unum_world.specs.declared.operation.Op.{Op}
 use Rattle.unum_world.specs.declared.operation.Op.TheVariants as op
 use Rattle.unum_world.specs.Worlds.{Holds, Queued, perform, over, over_live, ack_state}
-use Rattle.unum_world.specs.Seen.{HasStep}
 use Rattle.world_model.proofs.Gets.{get_set}
 
 abbrev pub Steps_hold : (AttState → Type 0) → List AttState → (attempt : ℕ) → Type 0
@@ -33,7 +32,3 @@ perform_steps P h (op.Set p index count) a s = s
 perform_steps P h (op.Invoke i) a s = s
 perform_steps P h (op.Mark o) a s = s
 perform_steps P h (op.Ack b) a s = over_step P h.queue b ack_state a s (slice_get h.queue.atts b) refl
-
--- an attempt that has room for one more step has it after an operation
-pub perform_step : (h : Holds) (o : Op) (a : ℕ) → HasStep h.queue.atts a → HasStep (perform h o).queue.atts a
-perform_step h o a s = perform_steps (λ n. n < 4294967295) h o a s

@@ -1,11 +1,11 @@
 -- A list of objects, and what it has of each object.
-use Rattle.std.proofs.Common.{ℕ, zero, suc, ◌+◌, ◌≡◌, refl, sym, ap, ◌∙◌, subst, Bool, true, false, cond, List, [], ◌∷◌, ◌++◌, length, slice_get, slice_set, slice_index_or, ◌<◌, Option, Some, None, arith}
+use Rattle.std.proofs.Common.{ℕ, zero, suc, ◌+◌, ◌≡◌, refl, sym, ◌∙◌, subst, Bool, true, false, cond, List, [], ◌∷◌, ◌++◌, length, slice_get, slice_set, slice_index_or, ◌<◌, Option, Some, None, arith}
 use Rattle.place_name.specs.declared.obj.Obj.{Obj}
 use Rattle.unum_world.specs.declared.held.Held.{Held}
 use Rattle.unum_world.specs.declared.held.Slot.{Slot}
 use Rattle.unum_world.specs.declared.held.Slot.TheVariants as slot
 use Rattle.place_name.specs.Same.{object_same}
-use Rattle.unum_world.specs.Worlds.{Objects, put, created, nothing}
+use Rattle.unum_world.specs.Worlds.{put, created, nothing}
 use Rattle.unum_world.specs.Seen.{look_in, place_from}
 use Rattle.place_name.proofs.Sameness.{object_is, object_refl}
 

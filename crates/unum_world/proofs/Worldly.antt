@@ -1,10 +1,10 @@
 -- What the code of a world has is the run of its past.
-use Rattle.std.proofs.Common.{ℕ, ◌≡◌, refl, sym, ap, ◌∙◌, subst, List, [], length, slice_get, Option, Some, None}
+use Rattle.std.proofs.Common.{◌≡◌, refl, List, [], Some}
 use Rattle.unum_world.specs.declared.opening.Opening.{Opening}
 use Rattle.unum_world.specs.declared.moment.Entry.{Entry}
 use Rattle.unum_world.specs.declared.phase.Phase.{Phase}
 use Rattle.unum_world.specs.declared.queue.Event.{Event}
-use Rattle.unum_world.specs.Worlds.{Holds, World, run, run_from, start, start_hub}
+use Rattle.unum_world.specs.Worlds.{Holds, run, run_from, start_hub}
 
 -- an opening with no event yet
 pub started : (o : Opening) (h : List Event) (hub : Holds) (ps : List Phase) (j : List Entry) →

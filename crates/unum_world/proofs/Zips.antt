@@ -1,7 +1,6 @@
 -- Attempts with their phases, as one list.
-use Rattle.std.proofs.Common.{ℕ, zero, suc, ◌≡◌, refl, sym, ap, ◌∙◌, subst, arith, List, [], ◌∷◌, ◌++◌, length, map, slice_get, slice_set, Option, Some, None}
+use Rattle.std.proofs.Common.{ℕ, zero, suc, ◌≡◌, refl, sym, ap, ◌∙◌, arith, List, [], ◌∷◌, ◌++◌, length, map, slice_get, slice_set, Some, None}
 use Rattle.std.proofs.lemmas.Option.{same_Some}
-use Rattle.world_model.specs.World as worlds
 use Rattle.unum_world.specs.declared.phase.Phase.{Phase}
 use Rattle.unum_world.specs.declared.queue.AttState.{AttState}
 use Rattle.unum_world.specs.Sited.{attempt_as, attempts_as}

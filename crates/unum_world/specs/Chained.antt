@@ -1,5 +1,5 @@
 -- What every world of chains keeps, and when a world is drained.
-use Rattle.std.specs.Prelude.{ℕ, ◌≡◌, ◌≢◌, ◌<◌, ◌≤◌, ◌+◌, ◌&&◌, Bool, false, IsFalse, cond, nat_eq, List, [], ◌∷◌, length, slice_get, Some, None}
+use Rattle.std.specs.Prelude.{ℕ, ◌≡◌, ◌<◌, ◌≤◌, ◌+◌, ◌&&◌, Bool, false, IsFalse, cond, nat_eq, List, [], ◌∷◌, length, slice_get, Some}
 use Rattle.place_name.specs.declared.kind.Kind.{Kind}
 use Rattle.place_name.specs.declared.kind.Kind.TheVariants as kind
 use Rattle.asl_model.specs.declared.machine.Machine.{Machine}

@@ -6,7 +6,7 @@ use Rattle.unum_json.specs.Tree.{is_small}
 use Rattle.asl_shape.specs.Stages.{Stages}
 use Rattle.asl_model.specs.declared.machine.Machine.{Machine}
 use Rattle.asl_model.specs.declared.machine.Care.{Care}
-use Rattle.asl_model.specs.Data.{Text, Json, Outcome, Done, Failed, failure, hop_limit_error, no_state_error, data_limit}
+use Rattle.asl_model.specs.Data.{Text, Json, Done, failure, hop_limit_error, no_state_error, data_limit}
 use Rattle.asl_model.specs.Head.{bare}
 use Rattle.asl_model.specs.Machine.{State, Task, Succeed, state_of}
 use Rattle.asl_model.specs.Tree.{state_tree, tree_of}

@@ -1,5 +1,5 @@
 -- What the instances of a world of chains are like: they stand in a session's own scope, and none is a Join.
-use Rattle.std.specs.Prelude.{ℕ, ◌≡◌, ◌<◌, ◌≤◌, ◌+◌, nat_lt, List, [], ◌∷◌, Option, Some, None, length, slice_get, option_map, IsSome}
+use Rattle.std.specs.Prelude.{ℕ, ◌≡◌, ◌<◌, ◌+◌, nat_lt, List, [], ◌∷◌, Option, Some, length, slice_get, option_map, IsSome}
 use Rattle.std.specs.List.{AllByRecursion}
 use Rattle.place_name.specs.declared.kind.Kind.{Kind}
 use Rattle.place_name.specs.declared.kind.Kind.TheVariants as kind

@@ -1,7 +1,6 @@
 -- The world with each function's number replaced by what it stands for. So it is seen as a world of `world_model`, whose
 -- theorems hold of it.
-use Rattle.std.specs.Prelude.{ℕ, suc, Bool, true, false, List, [], ◌∷◌, map, slice_get, Option, Some, None}
-use Rattle.place_name.specs.declared.obj.Obj.{Obj}
+use Rattle.std.specs.Prelude.{ℕ, suc, Bool, true, false, List, [], ◌∷◌, map, Option, Some, None}
 use Rattle.asl_model.specs.Machine.{Block, block, no_state}
 use Rattle.asl_model.specs.Tree.{tree_of}
 use Rattle.asl_model.specs.declared.machine.Machine.{Machine}

@@ -1,4 +1,4 @@
-use Rattle.std.proofs.Common.{rules, ◌≡◌, ◌∙◌, sym, subst, true, false, Option, Some, None}
+use Rattle.std.proofs.Common.{rules, ◌≡◌, sym, subst, true, false, Option, Some}
 use Rattle.unum_world.specs.declared.opening.Opening.{Opening}
 use Rattle.unum_cli.specs.Forms.{Forms}
 use Rattle.unum_cli.specs.Bundles.{members, only, bundle_keys}

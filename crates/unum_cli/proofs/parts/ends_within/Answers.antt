@@ -1,4 +1,4 @@
-use Rattle.std.proofs.Common.{◌≡◌, ◌+◌, ◌-◌, ◌∙◌, sym, ap}
+use Rattle.std.proofs.Common.{◌+◌, ◌-◌, ◌∙◌, sym, ap}
 use Rattle.unum_cli.specs.Bundles.{ends_within}
 use Rattle.unum_cli.proofs.Accepted.{ends_step}
 use Rattle.unum_cli.proofs.parts.ends_within.Goals as goal

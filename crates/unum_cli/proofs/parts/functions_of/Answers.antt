@@ -1,4 +1,4 @@
-use Rattle.std.proofs.Common.{◌≡◌, sym, subst}
+use Rattle.std.proofs.Common.{sym, subst}
 use Rattle.std.specs.Map.{keys_of}
 use Rattle.unum_json.specs.Keys.{IsRising}
 use Rattle.unum_cli.specs.Bundles.{Members}

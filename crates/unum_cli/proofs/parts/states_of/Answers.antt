@@ -1,11 +1,10 @@
-use Rattle.std.proofs.Common.{◌≡◌, sym, subst, ℕ, List}
+use Rattle.std.proofs.Common.{sym, subst, ℕ, List}
 use Rattle.asl_model.specs.declared.machine.State.{State}
 use Rattle.asl_model.specs.Tree.{state_tree}
 use Rattle.unum_world.specs.Links.{IsLink}
 use Rattle.std.specs.Map.{keys_of}
-use Rattle.unum_json.specs.declared.value.Json.{Json}
 use Rattle.unum_json.specs.Keys.{IsRising}
-use Rattle.unum_cli.specs.Bundles.{Members, each, state_of}
+use Rattle.unum_cli.specs.Bundles.{Members, state_of}
 use Rattle.unum_cli.proofs.Members.{member_next, keys_next, keys_rising, all_more}
 use Rattle.unum_cli.proofs.parts.states_of.Goals as goal
 

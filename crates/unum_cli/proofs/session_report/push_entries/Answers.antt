@@ -1,4 +1,4 @@
-use Rattle.std.proofs.Common.{◌≡◌, ◌∙◌, ◌-◌, ◌++◌, sym, ap, arith, string_bytes}
+use Rattle.std.proofs.Common.{◌∙◌, ◌++◌, ap, arith, string_bytes}
 use Rattle.unum_world.specs.Seen.{now}
 use Rattle.unum_cli.specs.Report.{lines, entry_line}
 use Rattle.unum_cli.proofs.Lines.{line_next, lines_done}

@@ -1,4 +1,4 @@
-use Rattle.std.proofs.Common.{◌≡◌, ◌∙◌, ◌-◌, ◌++◌, sym, ap, arith, length, string_bytes}
+use Rattle.std.proofs.Common.{◌∙◌, ◌++◌, ap, arith, length, string_bytes}
 use Rattle.unum_world.specs.declared.opening.Opening.{Opening}
 use Rattle.unum_world.specs.Seen.{now}
 use Rattle.unum_cli.specs.Report.{lines, session_line}

@@ -1,4 +1,3 @@
-use Rattle.std.proofs.Common.{◌≡◌, ◌∙◌, sym, ap}
 use Rattle.std.proofs.lemmas.List.{drop_more}
 use Rattle.unum_world.proofs.Rests.{latest_next}
 use Rattle.unum_world.proofs.choosing.latest.Goals as goal

@@ -1,6 +1,6 @@
 use Rattle.std.proofs.Common.{◌≡◌, ◌++◌, [], drop, length}
 use Rattle.unum_world.specs.Worlds.{root_args, root_invs, root_states, nothing}
-use Rattle.unum_world.specs.Seen.{objects_of, queue_of}
+use Rattle.unum_world.specs.Seen.{objects_of}
 use Rattle.unum_world.proofs.opens.first_hub.Given as goal
 
 abbrev pub invariant-loop-s : goal.invariant-loop-s

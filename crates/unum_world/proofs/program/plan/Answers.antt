@@ -1,5 +1,5 @@
-use Rattle.std.proofs.Common.{◌≡◌, ◌∙◌, sym, ap, subst, slice_get}
-use Rattle.std.specs.Prelude.{OnErr, IsTrue}
+use Rattle.std.proofs.Common.{◌≡◌, ◌∙◌, sym, ap, subst}
+use Rattle.std.specs.Prelude.{IsTrue}
 use Rattle.unum_world.specs.declared.phase.Phase.{Phase}
 use Rattle.unum_world.specs.Program.{next_of, next_takes_memory}
 use Rattle.unum_world.specs.Worlds.{planned_by}

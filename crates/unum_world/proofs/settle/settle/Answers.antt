@@ -1,6 +1,6 @@
-use Rattle.std.proofs.Common.{rules, ◌≡◌, ◌≤◌, ◌∙◌, sym, subst, ap, false, true, length, Option, Some, None}
+use Rattle.std.proofs.Common.{◌≡◌, ◌∙◌, sym, ap, false, true, Some}
 use Rattle.unum_world.specs.Worlds.{enabled}
-use Rattle.unum_world.specs.Seen.{Past, now, chosen_event, IsChosen}
+use Rattle.unum_world.specs.Seen.{Past, now, chosen_event}
 use Rattle.unum_world.proofs.Choices.{chosen_more, chosen_enabled}
 use Rattle.unum_world.proofs.settle.settle.Goals as goal
 

@@ -1,4 +1,4 @@
-use Rattle.std.proofs.Common.{◌≡◌, ◌+◌, ◌≤◌, drop, length, take}
+use Rattle.std.proofs.Common.{◌≡◌, ◌+◌, ◌≤◌, drop}
 use Rattle.unum_world.specs.Sessions.{crashes_in}
 use Rattle.unum_world.proofs.standings.crashes.Given as goal
 

@@ -1,7 +1,4 @@
-use Rattle.std.proofs.Common.{sym, subst, ap, ◌∙◌, ◌<◌, ◌≡◌, List, length, Option, Some, None, [], ◌∷◌, ◌++◌}
-use Rattle.place_name.specs.declared.obj.Obj.{Obj}
-use Rattle.unum_world.specs.declared.held.Held.{Held}
-use Rattle.unum_world.specs.declared.held.Slot.{Slot}
+use Rattle.std.proofs.Common.{sym, ◌≡◌, None, [], ◌∷◌, ◌++◌}
 use Rattle.unum_world.specs.declared.held.Slot.TheVariants as slot
 use Rattle.unum_world.specs.Seen.{look_in}
 use Rattle.unum_world.proofs.Stores.{created_pushed}

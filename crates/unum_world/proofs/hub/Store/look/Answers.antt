@@ -1,8 +1,7 @@
-use Rattle.std.proofs.Common.{arith, sym, subst, ap, ◌∙◌, ◌<◌, ◌≡◌, List, length, Some, None}
+use Rattle.std.proofs.Common.{arith, sym, ap, ◌∙◌, ◌<◌, length, Some}
 use Rattle.place_name.specs.declared.obj.Obj.{Obj}
 use Rattle.unum_world.specs.declared.held.Slot.{Slot}
-use Rattle.unum_world.specs.Seen.{place_from, look_in}
-use Rattle.unum_world.proofs.Stores.{Lies, lies, look_none}
+use Rattle.unum_world.proofs.Stores.{lies, look_none}
 use Rattle.unum_world.proofs.hub.Store.look.Goals as goal
 
 pub index-requires : goal.index-requires

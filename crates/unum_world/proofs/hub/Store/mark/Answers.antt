@@ -1,13 +1,11 @@
-use Rattle.std.proofs.Common.{arith, sym, subst, ap, ◌∙◌, ◌<◌, ◌≡◌, List, length, Option, Some, None, slice_set}
+use Rattle.std.proofs.Common.{arith, sym, subst, ap, ◌∙◌, ◌<◌, ◌≡◌, length, Option, None, slice_set}
 use Rattle.place_name.specs.declared.obj.Obj.{Obj}
 use Rattle.unum_world.specs.declared.held.Slot.{Slot}
 use Rattle.unum_world.specs.declared.held.Slot.TheVariants as slot
-use Rattle.place_name.specs.declared.obj.WasMarked.{WasMarked}
-use Rattle.place_name.specs.declared.obj.WasMarked.TheVariants as was
-use Rattle.unum_world.specs.Worlds.{marked, Objects}
-use Rattle.unum_world.specs.Seen.{place_from, look_in}
+use Rattle.unum_world.specs.Worlds.{marked}
+use Rattle.unum_world.specs.Seen.{look_in}
 use Rattle.unum_world.specs.Replies.{was_marked}
-use Rattle.unum_world.proofs.Stores.{Lies, lies, look_none}
+use Rattle.unum_world.proofs.Stores.{lies, look_none}
 use Rattle.unum_world.proofs.hub.Store.mark.Goals as goal
 
 pub index_mut-item-requires : goal.index_mut-item-requires

@@ -1,5 +1,5 @@
-use Rattle.std.proofs.Common.{◌≡◌, sym, subst}
-use Rattle.unum_world.specs.Seen.{Past, IsChosen}
+use Rattle.std.proofs.Common.{sym, subst}
+use Rattle.unum_world.specs.Seen.{IsChosen}
 use Rattle.unum_world.proofs.Choices.{chosen_begun}
 use Rattle.unum_world.proofs.settle.Planned.open.Goals as goal
 

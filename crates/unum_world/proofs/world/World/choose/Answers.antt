@@ -1,9 +1,6 @@
-use Rattle.std.proofs.Common.{rules, ℕ, ◌≡◌, ◌+◌, ◌<◌, ◌≤◌, sym, subst, ap, ◌∙◌, true, Bool, Option, Some, None, length, List, ◌++◌, ◌∷◌, [], slice_get, arith, length-append}
-use Rattle.unum_world.specs.declared.queue.Event.{Event}
-use Rattle.unum_world.specs.Worlds.{World}
-use Rattle.unum_world.specs.Plans.{allowed, pick}
+use Rattle.std.proofs.Common.{rules, ◌≡◌, ◌≤◌, sym, subst, ◌∙◌, None, length, arith}
 use Rattle.unum_world.specs.Chained.{IsDrained}
-use Rattle.unum_world.specs.Seen.{Past, seen, now, then_now, chosen_event, Bounded}
+use Rattle.unum_world.specs.Seen.{Past, seen, now, chosen_event, Bounded}
 use Rattle.unum_world.proofs.Bounds.{run_bounded}
 use Rattle.unum_world.proofs.PlainRuns.{run_plain}
 use Rattle.unum_world.proofs.Drained.{unchosen_drained}

@@ -1,4 +1,4 @@
-use Rattle.std.proofs.Common.{◌≡◌, subst}
+use Rattle.std.proofs.Common.{subst}
 use Rattle.unum_world.specs.Seen.{Past, seen}
 use Rattle.unum_world.specs.Sound.{IsSound}
 use Rattle.unum_world.proofs.SitedRuns.{run_sound}

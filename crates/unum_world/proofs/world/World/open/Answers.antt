@@ -1,6 +1,6 @@
-use Rattle.std.proofs.Common.{rules, ℕ, ◌≡◌, ◌+◌, ◌<◌, ◌≤◌, sym, subst, ap, ◌∙◌, true, Bool, Option, Some, None, length, List, ◌++◌, ◌∷◌, [], slice_get, arith, length-append}
+use Rattle.std.proofs.Common.{◌≡◌, subst, List, [], arith}
 use Rattle.unum_world.specs.declared.opening.Opening.{Opening}
-use Rattle.unum_world.specs.Worlds.{Holds, start_hub}
+use Rattle.unum_world.specs.Worlds.{start_hub}
 use Rattle.unum_world.specs.declared.opening.Session.{Session}
 use Rattle.unum_world.specs.Seen.{holds_of}
 use Rattle.unum_world.proofs.Worldly.{started}

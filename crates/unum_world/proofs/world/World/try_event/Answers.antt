@@ -1,7 +1,6 @@
-use Rattle.std.proofs.Common.{rules, ℕ, ◌≡◌, ◌+◌, ◌<◌, ◌≤◌, sym, subst, ap, ◌∙◌, true, Bool, Option, Some, None, length, List, ◌++◌, ◌∷◌, [], slice_get, arith, length-append}
-use Rattle.unum_world.specs.declared.opening.Opening.{Opening}
+use Rattle.std.proofs.Common.{rules, ◌≡◌, ◌≤◌, sym, subst, ap, true, Option, length, List, ◌++◌, ◌∷◌, [], arith, length-append}
 use Rattle.unum_world.specs.declared.queue.Event.{Event}
-use Rattle.unum_world.specs.Worlds.{World, enabled, effect}
+use Rattle.unum_world.specs.Worlds.{World, enabled}
 use Rattle.unum_world.specs.Seen.{Past, is_enabled, seen, then_now}
 use Rattle.unum_world.proofs.Bounds.{run_bounded}
 use Rattle.unum_world.proofs.Choices.{run_step}
