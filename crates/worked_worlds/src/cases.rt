@@ -1,0 +1,97 @@
+//! One case.
+
+use crate::bundle::{bundle, machines, opening};
+use crate::fault::Fault;
+use crate::listed::{Group, event, group_of};
+use crate::report::{Counts, report};
+use plain_world::{ApplyError, Doing, Event, Op, World};
+use std::alloc::{AllocError, Global};
+use unum_json::NoMemory;
+
+/// Whether the event is a Mark.
+fn is_mark(alloc: Global, world: &World<'_>, e: Event) -> Result<bool, Fault> {
+    match e {
+        Event::Step(a) => Ok(matches!(world.doing(alloc, a)?, Doing::Do(Op::Mark(_)))),
+        _ => Ok(false),
+    }
+}
+
+/// Makes the event, and counts it. `false` says that it is not enabled.
+fn made(
+    alloc: Global,
+    world: &mut World<'_>,
+    counts: &mut Counts,
+    e: Event,
+) -> Result<bool, Fault> {
+    let mark = is_mark(alloc, world, e)?;
+    match world.apply(alloc, e) {
+        Ok(()) => {}
+        Err(ApplyError::NotEnabled) => return Ok(false),
+        Err(ApplyError::Unable(why)) => return Err(Fault::from(why)),
+    }
+    counts.events = counts.events.saturating_add(1);
+    if let Event::Crash(_) = e {
+        counts.crashes = counts.crashes.saturating_add(1);
+    }
+    if mark {
+        counts.marks = counts.marks.saturating_add(1);
+    }
+    Ok(true)
+}
+
+/// Makes the same event several times. `false` says that it was not enabled at some time.
+fn made_all(
+    alloc: Global,
+    world: &mut World<'_>,
+    counts: &mut Counts,
+    events: Group,
+) -> Result<bool, Fault> {
+    let e = event(events.letter, events.number)?;
+    for _ in 0..events.times {
+        if !made(alloc, world, counts, e)? {
+            return Ok(false);
+        }
+    }
+    Ok(true)
+}
+
+/// The line for an event that is not enabled.
+fn push_refusal(out: &mut String, at: u32, events: Group) -> Result<(), NoMemory> {
+    let number = events.number;
+    let letter = events.letter as char;
+    write!(out, "\nevent {at} {letter}{number} NotEnabled")?;
+    Ok(())
+}
+
+fn run(alloc: Global, given: &str, listed: &str) -> Result<String, Fault> {
+    let bundle = bundle(alloc, given)?;
+    let machines = machines(alloc, &bundle)?;
+    let mut world = World::open(alloc, opening(alloc, &bundle, &machines)?)?;
+    let mut counts = Counts {
+        events: 0,
+        crashes: 0,
+        marks: 0,
+    };
+    for word in listed.split(' ') {
+        if word.is_empty() {
+            continue;
+        }
+        let events = group_of(word.as_bytes())?;
+        if !made_all(alloc, &mut world, &mut counts, events)? {
+            let mut out = report(alloc, &world, &counts)?;
+            push_refusal(&mut out, counts.events, events)?;
+            return Ok(out);
+        }
+    }
+    report(alloc, &world, &counts)
+}
+
+/// The report of a case, or why it was not run.
+pub fn worked(alloc: Global, given: &str, listed: &str) -> Result<String, AllocError> {
+    match run(alloc, given, listed) {
+        Ok(text) => Ok(text),
+        Err(Fault::NotRead) => String::from_str(alloc, "not read"),
+        Err(Fault::OutOfRange) => String::from_str(alloc, "out of range"),
+        Err(Fault::NoMemory) => String::from_str(alloc, "no memory"),
+    }
+}

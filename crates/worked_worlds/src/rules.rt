@@ -1,0 +1,139 @@
+//! The rules of a Choice.
+
+use crate::fault::Fault;
+use crate::flows::path;
+use crate::values::{items, members, needed, text, text_at, truth};
+use asl_model::TopRule;
+use choice_rules::{
+    Comparison, NonEmpty, Op, OpKind, Operand, Pattern, PatternError, Rel, Rule, is_sound,
+};
+use sqlite_items::Boxed;
+use std::alloc::Global;
+use unum_json::{Fields, Items, Json, Text, copy};
+
+/// How a comparison's name goes on after its kind.
+fn relation(name: &[u8]) -> Option<(Rel, bool)> {
+    match name {
+        b"Equals" => Some((Rel::Equal, false)),
+        b"EqualsPath" => Some((Rel::Equal, true)),
+        b"LessThan" => Some((Rel::Less, false)),
+        b"LessThanPath" => Some((Rel::Less, true)),
+        b"LessThanEquals" => Some((Rel::LessEqual, false)),
+        b"LessThanEqualsPath" => Some((Rel::LessEqual, true)),
+        b"GreaterThan" => Some((Rel::Greater, false)),
+        b"GreaterThanPath" => Some((Rel::Greater, true)),
+        b"GreaterThanEquals" => Some((Rel::GreaterEqual, false)),
+        b"GreaterThanEqualsPath" => Some((Rel::GreaterEqual, true)),
+        _ => None,
+    }
+}
+
+fn comparison(alloc: Global, kind: OpKind, name: &[u8], value: &Json) -> Result<Op, Fault> {
+    let Some((rel, by_path)) = relation(name) else {
+        return Err(Fault::NotRead);
+    };
+    let operand = if by_path {
+        Operand::Found(path(alloc, value)?)
+    } else {
+        Operand::Constant(copy(alloc, value)?)
+    };
+    if !is_sound(kind, rel, &operand) {
+        return Err(Fault::NotRead);
+    }
+    Ok(Op::Compare(Comparison { kind, rel, operand }))
+}
+
+/// The comparison's kind, and how its name goes on.
+fn kind_of(name: &[u8]) -> Option<(OpKind, &[u8])> {
+    if let Some(rest) = name.strip_prefix(b"String") {
+        return Some((OpKind::Text, rest));
+    }
+    if let Some(rest) = name.strip_prefix(b"Numeric") {
+        return Some((OpKind::Number, rest));
+    }
+    if let Some(rest) = name.strip_prefix(b"Boolean") {
+        return Some((OpKind::Truth, rest));
+    }
+    None
+}
+
+fn pattern(alloc: Global, value: &Json) -> Result<Op, Fault> {
+    match Pattern::read(alloc, text(value)?.as_str()) {
+        Ok(pattern) => Ok(Op::Matches(pattern)),
+        Err(PatternError::NoMemory) => Err(Fault::NoMemory),
+        Err(PatternError::LoneBackslash) => Err(Fault::NotRead),
+    }
+}
+
+fn operator(alloc: Global, name: &[u8], value: &Json) -> Result<Op, Fault> {
+    match name {
+        b"StringMatches" => pattern(alloc, value),
+        b"IsNull" => Ok(Op::IsNull(truth(value)?)),
+        b"IsPresent" => Ok(Op::IsPresent(truth(value)?)),
+        b"IsNumeric" => Ok(Op::IsNumeric(truth(value)?)),
+        b"IsString" => Ok(Op::IsString(truth(value)?)),
+        b"IsBoolean" => Ok(Op::IsBoolean(truth(value)?)),
+        _ => match kind_of(name) {
+            Some((kind, rest)) => comparison(alloc, kind, rest, value),
+            None => Err(Fault::NotRead),
+        },
+    }
+}
+
+fn is_beside(name: &[u8]) -> bool {
+    matches!(name, b"Variable" | b"Next" | b"Comment")
+}
+
+/// The member that says what is tested.
+fn head(fields: &Fields<Json>) -> Result<&(Text, Json), Fault> {
+    for field in fields.as_slice() {
+        if !is_beside(field.0.as_bytes()) {
+            return Ok(field);
+        }
+    }
+    Err(Fault::NotRead)
+}
+
+#[cycle(rules)]
+fn several(alloc: Global, depth: u32, value: &Json) -> Result<NonEmpty<Rule>, Fault> {
+    let mut all = Vec::new(alloc);
+    if depth > 0 {
+        for item in items(value)?.as_slice() {
+            all.push(rule(alloc, depth - 1, item)?)?;
+        }
+    }
+    if all.is_empty() {
+        return Err(Fault::NotRead);
+    }
+    Ok(NonEmpty::from_vec(all))
+}
+
+#[cycle(rules)]
+fn rule(alloc: Global, depth: u32, value: &Json) -> Result<Rule, Fault> {
+    if depth == 0 {
+        return Err(Fault::NotRead);
+    }
+    let fields = members(value)?;
+    let (name, asked) = head(fields)?;
+    match name.as_bytes() {
+        b"And" => Ok(Rule::And(several(alloc, depth - 1, asked)?)),
+        b"Or" => Ok(Rule::Or(several(alloc, depth - 1, asked)?)),
+        b"Not" => Ok(Rule::Not(Boxed::new(alloc, rule(alloc, depth - 1, asked)?)?)),
+        _ => {
+            let variable = path(alloc, needed(fields, b"Variable")?)?;
+            let op = operator(alloc, name.as_bytes(), asked)?;
+            Ok(Rule::Test { variable, op })
+        }
+    }
+}
+
+/// The rules of a Choice, each with its Next.
+pub fn top_rules(alloc: Global, depth: u32, value: &Json) -> Result<Items<TopRule>, Fault> {
+    let mut all = Items::new(alloc);
+    for item in items(value)?.as_slice() {
+        let rule = rule(alloc, depth, item)?;
+        let next = text_at(alloc, members(item)?, b"Next")?;
+        all.push(TopRule { rule, next })?;
+    }
+    Ok(all)
+}
