@@ -25,6 +25,3 @@ pub use pattern::{Pattern, Piece};
 pub use reading::PatternError;
 pub use rule::{Op, Rule};
 pub use several::NonEmpty;
-
-#[cfg(test)]
-mod tests;

@@ -7,8 +7,6 @@ mod builtin;
 mod calls;
 mod kind;
 mod table;
-#[cfg(test)]
-mod tests;
 
 pub use answered::{Answered, Functions};
 pub use builtin::BuiltIns;

@@ -25,6 +25,3 @@ pub use limit::limit_of;
 pub use onward::{Begun, Onward, Used};
 pub use stop::{Stop, Visited};
 pub use walking::after;
-
-#[cfg(test)]
-mod tests;

@@ -6,6 +6,7 @@ use Rattle.asl_model.specs.Data.{Text, Json}
 use Rattle.world_model.specs.Operations.{Invocation, Op}
 use Rattle.world_model.specs.Program.{Do, Ask, Nothing, next_of, absorb, called_back}
 use Rattle.world_model.specs.World.{World, Attempt, Step, Answer, effect, with_att, with_inv, did, asked, answered_by, perform, reply_to, lives_on, function_of}
+use Rattle.plain_world.specs.Views.{put_attempt}
 
 -- an attempt with its invocation
 pub record Found (w : World) (a : ℕ) (t : Attempt) (i : Invocation) : Type 0 where
@@ -60,13 +61,11 @@ module _ (w : World) (a : ℕ) (t : Attempt) (i : Invocation) (f : Found w a t i
   pub answer_missing : (r : Text) (x : Json) → Ask r x ≡ next_of i t.phase → None ≡ function_of w.opening.functions r → w ≡ effect w (Answer a)
   answer_missing r x n k = sym (answer_is w a t i f ∙ (ap (asked w a t i) (sym n) ∙ ap (answered_by w a t i x) (sym k)))
 
-  pub step_done : (op : Op) (p : World) (atts : List Attempt) (after : Attempt) → Do op ≡ next_of i t.phase → p ≡ perform w a t op
+  pub step_done : (op : Op) (v : World) (after : Attempt) → Do op ≡ next_of i t.phase
       → after ≡ record { inv = t.inv; live = lives_on op; steps = suc t.steps; phase = absorb i a t.phase (reply_to w op) }
-      → atts ≡ slice_set p.atts a after → record p { atts = atts } ≡ effect w (Step a)
-  step_done op p atts after n q h k =
-      ap (λ (l : List Attempt). record p { atts = l }) (k ∙ ap (slice_set p.atts a) h)
-      ∙ (ap (λ (v : World). record v { atts = slice_set v.atts a (record { inv = t.inv; live = lives_on op; steps = suc t.steps; phase = absorb i a t.phase (reply_to w op) }) }) q
-      ∙ sym (step_is w a t i f ∙ ap (did w a t i t.phase) (sym n)))
+      → v ≡ put_attempt (perform w a t op) a after → v ≡ effect w (Step a)
+  step_done op v after n h k =
+      k ∙ (ap (put_attempt (perform w a t op) a) h ∙ sym (step_is w a t i f ∙ ap (did w a t i t.phase) (sym n)))
 
   pub answer_done : (r : Text) (x : Json) (kind : FnKind) (atts : List Attempt) (after : Attempt) → Ask r x ≡ next_of i t.phase → Some kind ≡ function_of w.opening.functions r
       → after ≡ record { inv = t.inv; live = true; steps = suc t.steps; phase = called_back i a t.phase (answer kind x a) }

@@ -1,5 +1,5 @@
 -- How the values of this crate are seen as the data of `world_model`.
-use Rattle.std.specs.Prelude.{ℕ, map, List, [], ◌∷◌, cond, slice_get, Option, Some, None}
+use Rattle.std.specs.Prelude.{ℕ, map, List, [], ◌∷◌, cond, slice_get, slice_set, Option, Some, None}
 use Rattle.asl_model.specs.Data.{Json, Null}
 use Rattle.asl_model.specs.Machine as m
 use Rattle.asl_model.specs.Tree.{block_tree}
@@ -169,3 +169,7 @@ doing_by v (Some t) = cond t.live (elim (slice_get v.invs t.inv) [ None ↦ p.No
 -- what an attempt does next in that world: nothing where it does not live
 abbrev pub doing_in : u.World → (attempt : ℕ) → p.Doing
 doing_in v a = doing_by v (slice_get v.atts a)
+
+-- the world with another attempt of that number
+abbrev pub put_attempt : u.World → (attempt : ℕ) → u.Attempt → u.World
+put_attempt v a t = record v { atts = slice_set v.atts a t }

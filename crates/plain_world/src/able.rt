@@ -15,8 +15,14 @@ fn is_do(doing: Doing<'_>) -> bool
     ensures { result ≡ is_do (doing_of doing.entry) }
 {
     match doing {
-        Doing::Do(_) => true,
-        Doing::Ask { .. } => false,
+        Doing::Do(op) => {
+            drop(op);
+            true
+        }
+        Doing::Ask { resource: _, input } => {
+            drop(input);
+            false
+        }
         Doing::Nothing => false,
     }
 }
@@ -26,8 +32,14 @@ fn is_ask(doing: Doing<'_>) -> bool
     ensures { result ≡ is_ask (doing_of doing.entry) }
 {
     match doing {
-        Doing::Do(_) => false,
-        Doing::Ask { .. } => true,
+        Doing::Do(op) => {
+            drop(op);
+            false
+        }
+        Doing::Ask { resource: _, input } => {
+            drop(input);
+            true
+        }
         Doing::Nothing => false,
     }
 }

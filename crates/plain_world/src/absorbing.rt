@@ -2,12 +2,11 @@ ghost use Rattle.std.specs.Prelude.{◌≡◌, ◌++◌, ◌∷◌, [], IfOk, ma
 ghost use Rattle.asl_model.specs.Data.{combine};
 ghost use Rattle.asl_model.specs.Names.{scope_of};
 ghost use Rattle.world_model.specs.Acts.{parent_of as parent_of_scope, acts as acts_of_instance};
-ghost use Rattle.world_model.specs.Program.{absorb as absorb_in, adopted as adopts, after_look, gathered as gathers, saved as saves, after_saved, after_out, enters_with as enters, read_as as reads_as, after_read, input_at as input_in_fan, after_create, after_act, state_at as state_at_spot, Marking, Acking};
+ghost use Rattle.world_model.specs.Program.{absorb as absorb_in, adopted as adopts, after_look, gathered as gathers, saved as saves, after_saved, after_out, enters_with as enters, read_as as reads_as, after_read, input_at as input_in_fan, after_create, after_act, state_at as state_at_spot, Acting, Marking, Acking};
 ghost use Rattle.std.specs.Prelude.{nat_lt, cond, suc, true};
 ghost use Rattle.plain_world.specs.Views.{frame_of, spot_of, invocation_of, held_of, phase_of, reply_of, kept_of};
 
 use crate::acts::acts;
-use crate::drops::{drop_held, drop_reply};
 use crate::due::due;
 use crate::held::{Held, Kept, Used, copy_kept, copy_used};
 use crate::names::parent_of;
@@ -27,7 +26,7 @@ fn adopted(found: Held) -> Phase
     match found {
         Held::Check(kept) => Phase::Acting { kept, done: 0 },
         other => {
-            drop_held(other);
+            drop(other);
             Phase::Acking(false)
         }
     }
@@ -45,7 +44,7 @@ fn looked(i: &Invocation<'_>, ticket: u32, reply: Reply) -> Phase
         },
         Reply::Live(found) => adopted(found),
         other => {
-            drop_reply(other);
+            drop(other);
             Phase::Acking(false)
         }
     }
@@ -101,7 +100,7 @@ fn saved(alloc: Global, spot: Spot<'_>, ticket: u32, found: Held) -> Result<Phas
             gathered(alloc, spot, ticket, count, raw, used, Items::new(alloc))
         }
         other => {
-            drop_held(other);
+            drop(other);
             Ok(Phase::Looking)
         }
     }
@@ -114,7 +113,7 @@ fn looked_saved(alloc: Global, spot: Spot<'_>, ticket: u32, reply: Reply) -> Res
     match reply {
         Reply::Live(found) => saved(alloc, spot, ticket, found),
         other => {
-            drop_reply(other);
+            drop(other);
             Ok(Phase::Looking)
         }
     }
@@ -165,7 +164,7 @@ fn one_more(
             gathered(alloc, spot, ticket, count, raw, used, all)
         }
         other => {
-            drop_reply(other);
+            drop(other);
             Ok(Phase::Looking)
         }
     }
@@ -202,7 +201,7 @@ fn read_as(alloc: Global, i: &Invocation<'_>, ticket: u32, found: Held) -> Resul
 {
     match (i.site.spot, found) {
         (Spot::Enter, Held::Arg { raw, used }) => {
-            let _ = used;
+            drop(used);
             Ok(enters_with(alloc, ticket, Some(raw)))
         }
         (
@@ -213,12 +212,12 @@ fn read_as(alloc: Global, i: &Invocation<'_>, ticket: u32, found: Held) -> Resul
                 used,
             },
         ) => {
-            let _ = used;
+            drop(used);
             read_saved(alloc, i, ticket, &raw)
         }
         (Spot::Task(_), Held::Arg { raw, used }) => Ok(Phase::Calling { raw, used }),
         (_, other) => {
-            drop_held(other);
+            drop(other);
             Ok(Phase::Looking)
         }
     }
@@ -231,7 +230,7 @@ fn read(alloc: Global, i: &Invocation<'_>, ticket: u32, reply: Reply) -> Result<
     match reply {
         Reply::Live(found) => read_as(alloc, i, ticket, found),
         other => {
-            drop_reply(other);
+            drop(other);
             Ok(Phase::Looking)
         }
     }
@@ -248,30 +247,50 @@ fn created(alloc: Global, kept: &Kept, reply: Reply) -> Result<Phase, NoMemory>
         }),
         Reply::Had(found) => Ok(adopted(found)),
         other => {
-            drop_reply(other);
+            drop(other);
             Ok(Phase::Acking(false))
         }
     }
 }
 
+/// The phase after the last act.
+fn marking(alloc: Global, kept: &Kept) -> Result<Phase, NoMemory>
+    ensures { IfOk result (λ p. phase_of p ≡ Marking (kept_of kept.now) 0) }
+{
+    let kept = copy_kept(alloc, kept)?;
+    Ok(Phase::Marking { kept, done: 0 })
+}
+
+/// The phase after an act that is not the setting of a bit, where there are so many in all.
+fn next_act(alloc: Global, kept: &Kept, done: u32, all: usize) -> Result<Phase, Unable>
+    ensures { IfOk result (λ p. phase_of p ≡ cond (nat_lt (suc done) all) (Acting (kept_of kept.now) (suc done)) (Marking (kept_of kept.now) 0)) }
+{
+    let next = done.checked_add(1).ok_or(Unable::OutOfRange)?;
+    if (next as usize) < all {
+        let kept = copy_kept(alloc, kept)?;
+        Ok(Phase::Acting { kept, done: next })
+    } else {
+        Ok(marking(alloc, kept)?)
+    }
+}
+
 /// The phase after an act, where there are so many in all. Set is the last act: where the bitmap is full, the Join is invoked.
-fn acted(kept: Kept, done: u32, all: usize, reply: Reply) -> Result<Phase, Unable>
-    ensures { IfOk result (λ p. phase_of p ≡ after_act (kept_of kept) done all (reply_of reply)) }
+fn acted(alloc: Global, kept: &Kept, done: u32, all: usize, reply: &Reply) -> Result<Phase, Unable>
+    ensures { IfOk result (λ p. phase_of p ≡ after_act (kept_of kept.now) done all (reply_of reply.now)) }
 {
     match reply {
-        Reply::Full => Ok(Phase::Joining(kept)),
-        Reply::NotFull => Ok(Phase::Marking { kept, done: 0 }),
-        Reply::BitsMarked => Ok(Phase::Marking { kept, done: 0 }),
-        other => {
-            drop_reply(other);
-            let next = done.checked_add(1).ok_or(Unable::OutOfRange)?;
-            if (next as usize) < all {
-                Ok(Phase::Acting { kept, done: next })
-            } else {
-                Ok(Phase::Marking { kept, done: 0 })
-            }
-        }
+        Reply::Full => Ok(Phase::Joining(copy_kept(alloc, kept)?)),
+        Reply::NotFull => Ok(marking(alloc, kept)?),
+        Reply::BitsMarked => Ok(marking(alloc, kept)?),
+        _ => next_act(alloc, kept, done, all),
     }
+}
+
+/// How many acts an instance has.
+fn number_of_acts(alloc: Global, i: &Invocation<'_>, kept: &Kept) -> Result<usize, Unable>
+    ensures { IfOk result (λ n. n ≡ length (acts_of_instance (invocation_of i.now) (kept_of kept.now))) }
+{
+    Ok(acts(alloc, i, kept)?.len())
 }
 
 /// The phase after an act of an instance.
@@ -280,21 +299,21 @@ fn act_done(
     i: &Invocation<'_>,
     kept: &Kept,
     done: u32,
-    reply: Reply,
+    reply: &Reply,
 ) -> Result<Phase, Unable>
-    ensures { IfOk result (λ p. phase_of p ≡ after_act (kept_of kept.now) done (length (acts_of_instance (invocation_of i.now) (kept_of kept.now))) (reply_of reply)) }
+    ensures { IfOk result (λ p. phase_of p ≡ after_act (kept_of kept.now) done (length (acts_of_instance (invocation_of i.now) (kept_of kept.now))) (reply_of reply.now)) }
 {
-    let ops = acts(alloc, i, kept)?;
-    let kept = copy_kept(alloc, kept)?;
-    acted(kept, done, ops.len(), reply)
+    let all = number_of_acts(alloc, i, kept)?;
+    acted(alloc, kept, done, all, reply)
 }
 
 /// The phase after a mark, where there are so many in all.
-fn marked(kept: Kept, done: u32, all: usize) -> Result<Phase, Unable>
-    ensures { IfOk result (λ p. phase_of p ≡ cond (nat_lt (suc done) all) (Marking (kept_of kept) (suc done)) (Acking true)) }
+fn marked(alloc: Global, kept: &Kept, done: u32, all: usize) -> Result<Phase, Unable>
+    ensures { IfOk result (λ p. phase_of p ≡ cond (nat_lt (suc done) all) (Marking (kept_of kept.now) (suc done)) (Acking true)) }
 {
     let next = done.checked_add(1).ok_or(Unable::OutOfRange)?;
     if (next as usize) < all {
+        let kept = copy_kept(alloc, kept)?;
         Ok(Phase::Marking { kept, done: next })
     } else {
         Ok(Phase::Acking(true))
@@ -342,27 +361,30 @@ pub fn absorb(
         )?),
         Phase::Reading => read(alloc, i, ticket, reply),
         Phase::Calling { raw, used } => {
-            drop_reply(reply);
+            drop(reply);
             Ok(calling(alloc, raw, used)?)
         }
         Phase::Creating(kept) => Ok(created(alloc, kept, reply)?),
-        Phase::Acting { kept, done } => act_done(alloc, i, kept, *done, reply),
+        Phase::Acting { kept, done } => {
+            let next = act_done(alloc, i, kept, *done, &reply);
+            drop(reply);
+            next
+        }
         Phase::Joining(kept) => {
-            drop_reply(reply);
-            let kept = copy_kept(alloc, kept)?;
-            Ok(Phase::Marking { kept, done: 0 })
+            drop(reply);
+            Ok(marking(alloc, kept)?)
         }
         Phase::Marking { kept, done } => {
-            drop_reply(reply);
+            drop(reply);
             let all = due(alloc, &i.name, kept.count)?.len();
-            marked(copy_kept(alloc, kept)?, *done, all)
+            marked(alloc, kept, *done, all)
         }
         Phase::Acking(finished) => {
-            drop_reply(reply);
+            drop(reply);
             Ok(Phase::Over(*finished))
         }
         Phase::Over(finished) => {
-            drop_reply(reply);
+            drop(reply);
             Ok(Phase::Over(*finished))
         }
     }

@@ -1,12 +1,11 @@
 ghost use Rattle.std.specs.Prelude.{◌≡◌, suc, IfOk, OnOk, OnErr, slice_get, true};
-ghost use Rattle.world_model.specs.World.{effect, delivered, crashed, ended_try, with_att, with_state, lives_on as lives_on_after, reply_to as reply_of_world};
+ghost use Rattle.world_model.specs.World.{effect, delivered, crashed, ended_try, with_att, with_state, lives_on as lives_on_after, reply_to as reply_of_world, perform as performed, Attempt as ModelAttempt};
 ghost use Rattle.world_model.specs.Program.{called_back as called_back_in, absorb as absorb_in};
 ghost use Rattle.world_model.specs.Operations.{Invocation as ModelInvocation};
 ghost use Rattle.fn_table.specs.Answers.{answer as answer_of};
-ghost use Rattle.plain_world.specs.Views.{op_of, phase_of, attempt_of, event_of, invocation_of, seen};
+ghost use Rattle.plain_world.specs.Views.{op_of, phase_of, attempt_of, event_of, invocation_of, seen, put_attempt};
 
 use crate::absorbing::absorb;
-use crate::drops::{drop_json, drop_op, drop_outcome};
 use crate::held::{Kept, copy_used};
 use crate::operation::Op;
 use crate::performing::{perform, reply_to};
@@ -19,7 +18,7 @@ use crate::unable::Unable;
 use crate::world::World;
 use fn_table::{FnKind, call};
 use std::alloc::Global;
-use unum_json::{Json, Outcome, copy};
+use unum_json::{Json, NoMemory, Outcome, copy};
 
 /// Delivers an invocation.
 fn deliver(world: &mut World<'_>, inv: u32) -> Result<(), Unable>
@@ -106,7 +105,10 @@ fn lives_on(op: &Op<'_>) -> bool
 fn moved(t: &Attempt, live: bool, phase: Phase) -> Result<Attempt, Unable>
     ensures { IfOk result (λ v. attempt_of v ≡ record { inv = t.now.inv; live = live; steps = suc t.now.steps; phase = phase_of phase }) }
 {
-    let steps = t.steps.checked_add(1).ok_or(Unable::OutOfRange)?;
+    let Some(steps) = t.steps.checked_add(1) else {
+        drop(phase);
+        return Err(Unable::OutOfRange);
+    };
     Ok(Attempt {
         inv: t.inv,
         live,
@@ -131,6 +133,30 @@ fn stepped(
     moved(t, lives_on(op), phase)
 }
 
+/// The operation of an attempt of that invocation, and how the attempt stands after it.
+fn carry_out<'m>(
+    alloc: Global,
+    world: &mut World<'m>,
+    attempt: u32,
+    inv: u32,
+    op: Op<'m>,
+    after: Attempt,
+) -> Result<(), Unable>
+    ensures ok { OnOk result ((t : ModelAttempt) → t.inv ≡ inv → seen world.new ≡ put_attempt (performed (seen world.old) attempt t (op_of op.entry)) attempt (attempt_of after)) }
+    ensures err { OnErr result (seen world.new ≡ seen world.old) }
+{
+    match perform(alloc, world, attempt, inv, op) {
+        Ok(()) => {
+            set_attempt(&mut world.atts, attempt, after);
+            Ok(())
+        }
+        Err(NoMemory) => {
+            drop(after);
+            Err(Unable::NoMemory)
+        }
+    }
+}
+
 /// An attempt does its next operation.
 fn step<'m>(alloc: Global, world: &mut World<'m>, attempt: u32) -> Result<(), Unable>
     ensures ok { OnOk result (seen world.new ≡ effect (seen world.old) (event_of (Event.Step attempt))) }
@@ -145,16 +171,19 @@ fn step<'m>(alloc: Global, world: &mut World<'m>, attempt: u32) -> Result<(), Un
     match next_of(alloc, i, &t.phase)? {
         Doing::Nothing => Ok(()),
         Doing::Ask { resource: _, input } => {
-            drop_json(input);
+            drop(input);
             Ok(())
         }
-        Doing::Do(op) => {
-            let after = stepped(alloc, world, i, attempt, t, &op)?;
-            let inv = t.inv;
-            perform(alloc, world, attempt, inv, op)?;
-            set_attempt(&mut world.atts, attempt, after);
-            Ok(())
-        }
+        Doing::Do(op) => match stepped(alloc, world, i, attempt, t, &op) {
+            Ok(after) => {
+                let inv = t.inv;
+                carry_out(alloc, world, attempt, inv, op, after)
+            }
+            Err(why) => {
+                drop(op);
+                Err(why)
+            }
+        },
     }
 }
 
@@ -180,7 +209,7 @@ fn called_back(
             }))
         }
         _ => {
-            drop_outcome(outcome);
+            drop(outcome);
             Err(Unable::OutOfRange)
         }
     }
@@ -215,17 +244,17 @@ fn answer(alloc: Global, world: &mut World<'_>, attempt: u32) -> Result<(), Unab
     match next_of(alloc, i, &t.phase)? {
         Doing::Nothing => Ok(()),
         Doing::Do(op) => {
-            drop_op(op);
+            drop(op);
             Ok(())
         }
         Doing::Ask { resource, input } => {
             let Some(kind) = world.opening.functions.find(resource.as_bytes()) else {
-                drop_json(input);
+                drop(input);
                 return Ok(());
             };
             let after = answered(alloc, t, attempt, kind, &input)?;
             set_attempt(&mut world.atts, attempt, after);
-            drop_json(input);
+            drop(input);
             Ok(())
         }
     }

@@ -1,6 +1,7 @@
-ghost use Rattle.std.specs.Prelude.{◌≡◌, [], IfOk, map};
+ghost use Rattle.std.specs.Prelude.{◌≡◌, ◌∷◌, [], IfOk, OnOk, map};
+ghost use Rattle.place_name.specs.declared.obj.Obj.TheVariants.{Arg};
 ghost use Rattle.world_model.specs.Operations.{Arg_is, Live};
-ghost use Rattle.world_model.specs.World.{root_inv, root_invs, root_states, start_objects, put as put_in};
+ghost use Rattle.world_model.specs.World.{root_inv, root_invs, root_states, start_objects, fresh, put as put_in};
 ghost use Rattle.plain_world.specs.Views.{session_of, look_in, invocation_of, state_of};
 
 use crate::held::{Held, Slot};
@@ -55,6 +56,35 @@ fn put_input(
     Ok(())
 }
 
+/// The session of that number put before the others.
+fn put_session<'m>(
+    alloc: Global,
+    number: u32,
+    session: &Session<'m>,
+    all: &mut Begun<'m>,
+) -> Result<(), Unable>
+    ensures objects { OnOk result (look_in all.new.objects.items ≡ put_in (Arg (root_inv number (session_of session.now)).name) (Live (Arg_is session.now.input [])) (look_in all.old.objects.items)) }
+    ensures invs { OnOk result (map invocation_of all.new.invs.items ≡ root_inv number (session_of session.now) ∷ map invocation_of all.old.invs.items) }
+    ensures states { OnOk result (map state_of all.new.states.items ≡ fresh ∷ map state_of all.old.states.items) }
+{
+    let root = first_invocation(alloc, number, session)?;
+    if let Err(why) = put_input(alloc, &mut all.objects, Obj::Arg(root.name), session) {
+        drop(root);
+        return Err(why);
+    }
+    all.invs.insert(0, root)?;
+    all.states.insert(
+        0,
+        InvState {
+            tries: 0,
+            live: 0,
+            acked: false,
+            dead: false,
+        },
+    )?;
+    Ok(())
+}
+
 /// What there is of these sessions, which are numbered from one on.
 #[tactic(auto, unfolding(world_model::specs::World::root_invs, world_model::specs::World::root_states, world_model::specs::World::start_objects, crate::specs::Views::look_in))]
 pub fn first<'m>(alloc: Global, number: u32, sessions: &[Session<'m>]) -> Result<Begun<'m>, Unable>
@@ -71,19 +101,13 @@ pub fn first<'m>(alloc: Global, number: u32, sessions: &[Session<'m>]) -> Result
         [session, rest @ ..] => {
             let next = number.checked_add(1).ok_or(Unable::OutOfRange)?;
             let mut all = first(alloc, next, rest)?;
-            let root = first_invocation(alloc, number, session)?;
-            put_input(alloc, &mut all.objects, Obj::Arg(root.name), session)?;
-            all.invs.insert(0, root)?;
-            all.states.insert(
-                0,
-                InvState {
-                    tries: 0,
-                    live: 0,
-                    acked: false,
-                    dead: false,
-                },
-            )?;
-            Ok(all)
+            match put_session(alloc, number, session, &mut all) {
+                Ok(()) => Ok(all),
+                Err(why) => {
+                    drop(all);
+                    Err(why)
+                }
+            }
         }
     }
 }

@@ -7,7 +7,6 @@ mod absorbing;
 mod acts;
 mod bits;
 mod children;
-mod drops;
 mod due;
 mod events;
 mod first;

@@ -1,12 +1,11 @@
-ghost use Rattle.std.specs.Prelude.{◌≡◌, ◌++◌, ◌∷◌, [], IfOk, OnOk, OnErr, map, slice_get};
+ghost use Rattle.std.specs.Prelude.{◌≡◌, ◌++◌, ◌∷◌, [], ◌<◌, IfOk, OnOk, OnErr, map, slice_get, vec_len, vec_capacity};
 ghost use Rattle.std.specs.Option.{option_copied};
 ghost use Rattle.place_name.specs.declared.obj.Obj.TheVariants.{Bits};
 ghost use Rattle.world_model.specs.Operations.{Live};
 ghost use Rattle.world_model.specs.World.{put as put_in, reply_to as reply_of_world, look_reply as look_reply_of, create_reply as create_reply_of, set_reply as set_reply_of, mark_reply as mark_reply_of, entries_of, created, marked, with_bit as bit_set, with_state, acked, fresh, perform as performed, Attempt as ModelAttempt};
-ghost use Rattle.plain_world.specs.Views.{op_of, reply_of, held_of, condition_in, invocation_of, entries_in, seen};
+ghost use Rattle.plain_world.specs.Views.{op_of, reply_of, held_of, condition_in, invocation_of, entries_in, entry_of, seen};
 
 use crate::bits::{has_all, with_bit};
-use crate::drops::drop_held;
 use crate::held::{Held, Slot, copy_held};
 use crate::objects::put;
 use crate::operation::{Op, Reply};
@@ -108,6 +107,18 @@ fn entry_of(
     }
 }
 
+/// Adds an entry, if there is one, to a journal that has room for it.
+fn note(journal: &mut Vec<Entry>, entry: Option<Entry>)
+    requires { vec_len journal.old < vec_capacity journal.old }
+    ensures { map entry_of journal.new.items ≡ map entry_of journal.old.items ++ entries_in entry }
+{
+    if let Some(entry) = entry
+        && journal.push(entry).is_err()
+    {
+        unreachable!();
+    }
+}
+
 /// Makes an object that is absent, with the entry for it.
 fn make(
     world: &mut World<'_>,
@@ -118,13 +129,16 @@ fn make(
     ensures ok { OnOk result (seen world.new ≡ record (seen world.old) { objects = put_in object (Live (held_of held)) (seen world.old).objects; journal = (seen world.old).journal ++ entries_in entry }) }
     ensures err { OnErr result (seen world.new ≡ seen world.old) }
 {
-    world.journal.reserve(1)?;
-    put(&mut world.objects, object, Slot::Live(held))?;
-    if let Some(entry) = entry
-        && world.journal.push(entry).is_err()
-    {
-        unreachable!();
+    if let Err(_refused) = world.journal.reserve(1) {
+        drop(held);
+        drop(entry);
+        return Err(NoMemory);
     }
+    if let Err(NoMemory) = put(&mut world.objects, object, Slot::Live(held)) {
+        drop(entry);
+        return Err(NoMemory);
+    }
+    note(&mut world.journal, entry);
     Ok(())
 }
 
@@ -140,12 +154,15 @@ fn create(
     ensures err { OnErr result (seen world.new ≡ seen world.old) }
 {
     match world.object(&object) {
-        None => {
-            let entry = entry_of(alloc, &object, &held, attempt)?;
-            make(world, object, held, entry)
-        }
+        None => match entry_of(alloc, &object, &held, attempt) {
+            Ok(entry) => make(world, object, held, entry),
+            Err(NoMemory) => {
+                drop(held);
+                Err(NoMemory)
+            }
+        },
         Some(_) => {
-            drop_held(held);
+            drop(held);
             Ok(())
         }
     }

@@ -5,7 +5,6 @@ ghost use Rattle.std.specs.Option.{option_copied};
 ghost use Rattle.world_model.specs.World.{Attempt as ModelAttempt};
 ghost use Rattle.plain_world.specs.Views.{state_of, attempt_of, invocation_of};
 
-use crate::drops::drop_attempt;
 use crate::session::{Attempt, InvState};
 use crate::site::Invocation;
 use std::mem;
@@ -42,9 +41,9 @@ pub fn set_attempt(atts: &mut Vec<Attempt>, attempt: u32, t: Attempt)
     if at < atts.len() {
         let slot = &mut atts[at];
         let before = mem::replace(slot, t);
-        drop_attempt(before);
+        drop(before);
     } else {
-        drop_attempt(t);
+        drop(t);
     }
 }
 

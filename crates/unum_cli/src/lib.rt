@@ -3,16 +3,12 @@
 
 mod answer;
 mod bundle;
-#[cfg(test)]
-mod expected;
 mod forms;
 mod parts;
 mod plans;
 pub mod session_report;
 mod status;
 mod taking;
-#[cfg(test)]
-mod tests;
 mod top;
 mod values;
 mod words;

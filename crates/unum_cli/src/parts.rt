@@ -1,8 +1,9 @@
-ghost use Rattle.std.specs.Prelude.{◌≡◌, ◌≤◌, ◌<◌, length, List, ℕ, Bool, codes, IfOk, IsTrue};
+ghost use Rattle.std.specs.Prelude.{◌≡◌, ◌≤◌, ◌<◌, ◌++◌, ◌∷◌, [], length, List, ℕ, Bool, codes, IfOk, OnOk, OnErr, IsTrue};
 ghost use Rattle.std.specs.Option.{option_copied};
-ghost use Rattle.unum_cli.specs.Bundles.{const_of, kind_of, functions_of, after_in, task_of, is_name, state_in, text_in, state_of, each, has_key, is_sound, all_sound, ends_within, is_chain, machine_of, session_of};
+ghost use Rattle.unum_cli.specs.Bundles.{const_of, kind_of, functions_of, after_in, given, task_of, is_name, state_in, text_in, state_of, each, has_key, is_sound, all_sound, ends_within, is_chain, machine_of, session_of};
 ghost use Rattle.std.specs.Str.{chars};
-ghost use Rattle.unum_json.specs.Keys.{find_key};
+ghost use Rattle.unum_json.specs.Keys.{IsRising, find_key};
+ghost use Rattle.std.specs.Map.{keys_of};
 ghost use Rattle.unum_cli.specs.Forms.{Forms, Follows};
 ghost use Rattle.std.specs.List.{AllByRecursion};
 ghost use Rattle.asl_model.specs.declared.machine.State.{State};
@@ -14,7 +15,7 @@ use crate::values::{is_text, is_true, members, object_of, text, text_in};
 use asl_model::{After, Block, Machine, State};
 use fn_table::FnKind;
 use std::alloc::Global;
-use unum_json::{Fields, Json, Text, copy, copy_text, is_small};
+use unum_json::{Fields, Json, NoMemory, Text, copy, copy_text, is_small};
 use unum_world::{Session, succeed, task};
 
 /// A const with its value.
@@ -58,6 +59,21 @@ fn kind_of(alloc: Global, value: &Json) -> Result<FnKind, FormError>
     Err(FormError::NotAccepted)
 }
 
+/// Adds a value under a copy of that name, which is above the last.
+fn push_named<V: Drop>(
+    alloc: Global,
+    found: &mut Fields<V>,
+    name: &Text,
+    value: V,
+) -> Result<(), NoMemory>
+    requires { IsRising (keys_of (found.old ++ (name.now, value) ∷ [])) }
+    ensures ok { OnOk result (found.new ≡ found.old ++ (name.now, value) ∷ []) }
+    ensures err { OnErr result (found.new ≡ found.old) }
+{
+    let name = copy_text(alloc, name)?;
+    found.push(name, value)
+}
+
 /// The functions by name.
 #[tactic(auto, unfolding(crate::specs::Bundles::each))]
 pub fn functions_of(alloc: Global, fields: &Fields<Json>) -> Result<Fields<FnKind>, FormError>
@@ -67,8 +83,7 @@ pub fn functions_of(alloc: Global, fields: &Fields<Json>) -> Result<Fields<FnKin
     let all = fields.as_slice();
     for field in all {
         let kind = kind_of(alloc, &field.1)?;
-        let name = copy_text(alloc, &field.0)?;
-        found.push(name, kind)?;
+        push_named(alloc, &mut found, &field.0, kind)?;
     }
     Ok(found)
 }
@@ -143,6 +158,18 @@ fn state_in(alloc: Global, fields: &Fields<Json>) -> Result<State, FormError>
     Err(FormError::NotAccepted)
 }
 
+/// The value, where the test holds.
+fn given<V: Drop>(holds: bool, value: V) -> Result<V, FormError>
+    ensures form { Forms result (given holds value) }
+    ensures same { IfOk result (λ v. v ≡ value) }
+{
+    if holds {
+        Ok(value)
+    } else {
+        Err(FormError::NotAccepted)
+    }
+}
+
 /// A state with its name.
 #[tactic(auto, unfolding(crate::specs::Bundles::state_of))]
 fn state_of(alloc: Global, name: &Text, value: &Json) -> Result<State, FormError>
@@ -153,11 +180,7 @@ fn state_of(alloc: Global, name: &Text, value: &Json) -> Result<State, FormError
         return Err(FormError::NotAccepted);
     };
     let state = state_in(alloc, fields)?;
-    if is_name(name) {
-        Ok(state)
-    } else {
-        Err(FormError::NotAccepted)
-    }
+    given(is_name(name), state)
 }
 
 /// The states by name.
@@ -170,8 +193,7 @@ fn states_of(alloc: Global, fields: &Fields<Json>) -> Result<Fields<State>, Form
     let all = fields.as_slice();
     for field in all {
         let state = state_of(alloc, &field.0, &field.1)?;
-        let name = copy_text(alloc, &field.0)?;
-        found.push(name, state)?;
+        push_named(alloc, &mut found, &field.0, state)?;
     }
     Ok(found)
 }

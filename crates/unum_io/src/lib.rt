@@ -9,8 +9,6 @@ mod all;
 mod memory;
 mod sink;
 mod source;
-#[cfg(test)]
-mod tests;
 
 pub use all::{Bytes, ReadAll, read_all, write_all};
 pub use memory::{MemSink, MemSource};

@@ -4,7 +4,6 @@ ghost use Rattle.unum_world.specs.Worlds.{at};
 ghost use Rattle.unum_world.specs.Plain.{IsPlainName, IsPlainPhase, IsPlainOp, IsFirstOf};
 ghost use Rattle.unum_world.specs.declared.phase.Phase.{Phase};
 
-use crate::drops::{drop_held, drop_kept, drop_outcome, drop_phase, drop_reply};
 use crate::held::{Held, Kept};
 use crate::operation::{Op, Reply};
 use crate::phase::Phase;
@@ -23,7 +22,7 @@ fn adopt(held: Held) -> Phase
     match held {
         Held::Check(kept) => Phase::Act { kept, at: 0 },
         other => {
-            drop_held(other);
+            drop(other);
             Phase::Ack { finished: false }
         }
     }
@@ -40,7 +39,7 @@ fn looked(kind: Kind, reply: Reply) -> Phase
         },
         Reply::Live(held) => adopt(held),
         other => {
-            drop_reply(other);
+            drop(other);
             Phase::Ack { finished: false }
         }
     }
@@ -52,7 +51,7 @@ fn found(alloc: Global, m: &Machine, i: &Invocation, attempt: u32, held: Held) -
 {
     match (i.name.kind, held) {
         (Kind::Enter, Held::Arg { raw, used }) => {
-            let _ = used;
+            drop(used);
             Phase::Create(Kept {
                 raw: Json::Null,
                 used: Items::new(alloc),
@@ -63,7 +62,7 @@ fn found(alloc: Global, m: &Machine, i: &Invocation, attempt: u32, held: Held) -
         }
         (Kind::Task, Held::Arg { raw, used }) => Phase::Call { raw, used },
         (_, other) => {
-            drop_held(other);
+            drop(other);
             Phase::Look
         }
     }
@@ -76,7 +75,7 @@ fn gathered(alloc: Global, m: &Machine, i: &Invocation, attempt: u32, reply: Rep
     match reply {
         Reply::Live(held) => found(alloc, m, i, attempt, held),
         other => {
-            drop_reply(other);
+            drop(other);
             Phase::Look
         }
     }
@@ -89,12 +88,12 @@ fn created(kept: Kept, reply: Reply) -> Phase
     match reply {
         Reply::Won => Phase::Act { kept, at: 0 },
         Reply::Had(held) => {
-            drop_kept(kept);
+            drop(kept);
             adopt(held)
         }
         other => {
-            drop_kept(kept);
-            drop_reply(other);
+            drop(kept);
+            drop(other);
             Phase::Ack { finished: false }
         }
     }
@@ -120,7 +119,7 @@ fn marked(kept: Kept, at: u32, more: bool) -> Phase
     if more {
         Phase::Mark { kept, at: at + 1 }
     } else {
-        drop_kept(kept);
+        drop(kept);
         Phase::Ack { finished: true }
     }
 }
@@ -146,25 +145,25 @@ fn absorb(
         Phase::Data => gathered(alloc, m, i, attempt, reply),
         Phase::Create(kept) => created(kept, reply),
         Phase::Act { kept, at } => {
-            drop_reply(reply);
+            drop(reply);
             acted(kept, at, step.more)
         }
         Phase::Mark { kept, at } => {
-            drop_reply(reply);
+            drop(reply);
             marked(kept, at, step.more)
         }
         Phase::Saved => unreachable!(),
         Phase::Outs { .. } => unreachable!(),
         Phase::Call { raw, used } => {
-            drop_reply(reply);
+            drop(reply);
             Phase::Call { raw, used }
         }
         Phase::Ack { finished } => {
-            drop_reply(reply);
+            drop(reply);
             Phase::Over { finished }
         }
         Phase::Over { finished } => {
-            drop_reply(reply);
+            drop(reply);
             Phase::Over { finished }
         }
     }
@@ -189,9 +188,9 @@ pub fn absorb_at(
         let phase = &mut phases[at];
         let old = mem::replace(phase, Phase::Look);
         let moved = mem::replace(phase, absorb(alloc, m, i, attempt, step, old, reply));
-        drop_phase(moved);
+        drop(moved);
     } else {
-        drop_reply(reply);
+        drop(reply);
     }
 }
 
@@ -207,7 +206,7 @@ fn answer_in(attempt: u32, phase: Phase, outcome: Outcome) -> Phase
             count: 0,
         }),
         other => {
-            drop_outcome(outcome);
+            drop(outcome);
             other
         }
     }
@@ -222,8 +221,8 @@ pub fn answer_at(phases: &mut Vec<Phase>, attempt: u32, outcome: Outcome)
         let phase = &mut phases[at];
         let old = mem::replace(phase, Phase::Look);
         let moved = mem::replace(phase, answer_in(attempt, old, outcome));
-        drop_phase(moved);
+        drop(moved);
     } else {
-        drop_outcome(outcome);
+        drop(outcome);
     }
 }

@@ -7,7 +7,6 @@ mod choosing;
 mod codes;
 mod compare;
 mod copies;
-mod drops;
 mod held;
 mod hub;
 mod hubbing;
@@ -34,8 +33,6 @@ mod standings;
 mod steps;
 mod stops;
 mod store;
-#[cfg(test)]
-mod tests;
 mod walking;
 mod world;
 

@@ -2,7 +2,6 @@ ghost use Rattle.std.specs.Prelude.{◌≡◌, ◌≤◌, ◌<◌, [], length, I
 ghost use Rattle.unum_world.specs.Worlds.{start_hub, root_name, created};
 ghost use Rattle.unum_world.specs.Seen.{holds_of, objects_of};
 
-use crate::drops::drop_held;
 use crate::held::Held;
 use crate::hub::{Hub, Store};
 use crate::opening::Session;
@@ -36,7 +35,7 @@ fn save_input(alloc: Global, store: &mut Store, name: Name, input: &Json) -> Res
         used: Items::new(alloc),
     };
     let made = store.create(alloc, &Obj::Arg(name), &arg);
-    drop_held(arg);
+    drop(arg);
     made?;
     Ok(())
 }

@@ -5,7 +5,6 @@ ghost use Rattle.unum_world.specs.Worlds.{planned_by};
 ghost use Rattle.unum_world.specs.Plain.{IsPlainName, IsPlainPhase, IsPlainOp, IsPlainStop, IsFirstOf, plain_acts, planned_at};
 
 use crate::copies::copy_kept;
-use crate::drops::drop_held;
 use crate::held::Held;
 use crate::names::{hop_of, scope_of};
 use crate::operation::Op;
@@ -34,7 +33,7 @@ fn call_act(task: Name, func: u32, held: Held, at: u32) -> Option<PlannedStep>
     if at == 0 {
         return planned(Op::Create(Obj::Arg(task), held), true);
     }
-    drop_held(held);
+    drop(held);
     if at == 1 {
         planned(Op::Invoke(Invocation { name: task, func }), false)
     } else {
@@ -51,7 +50,7 @@ fn end_act(scope: Scope, held: Held, at: u32) -> Option<PlannedStep>
     if at == 0 {
         planned(Op::Create(Obj::Out(scope), held), false)
     } else {
-        drop_held(held);
+        drop(held);
         None
     }
 }

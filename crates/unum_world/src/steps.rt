@@ -1,4 +1,4 @@
-ghost use Rattle.std.specs.Prelude.{◌≡◌, ◌++◌, ℕ, ◌<◌, ◌≤◌, ◌+◌, ◌^◌, length, slice_get, IfOk, OnOk, OnErr, IsTrue, vec_len, Some, IsSome, option_map};
+ghost use Rattle.std.specs.Prelude.{◌≡◌, ◌++◌, ◌∷◌, [], ℕ, ◌<◌, ◌≤◌, ◌+◌, ◌^◌, length, slice_get, IfOk, OnOk, OnErr, IsTrue, vec_len, Some, IsSome, option_map};
 ghost use Rattle.std.specs.Vec.{vec_capacity};
 ghost use Rattle.std.specs.Option.{option_copied};
 ghost use Rattle.fn_table.specs.Answers.{answer};
@@ -12,7 +12,6 @@ ghost use Rattle.unum_world.specs.declared.queue.InvState.{InvState};
 ghost use Rattle.unum_world.specs.declared.queue.Event.TheVariants.{Deliver, Crash, Step, Answer, GiveUp};
 
 use crate::absorbing::{absorb_at, answer_at};
-use crate::drops::{drop_entry, drop_step};
 use crate::held::Held;
 use crate::hub::Hub;
 use crate::looking::{attempt_at, invocation_at, phase_at};
@@ -91,7 +90,7 @@ fn add_won(journal: &mut Vec<Entry>, wins: bool, entry: Option<Entry>)
                     unreachable!();
                 }
             } else {
-                drop_entry(Some(entry));
+                drop(Some(entry));
             }
         }
     }
@@ -193,7 +192,7 @@ pub fn step(alloc: Global, o: &Opening, now: &mut Moment, attempt: u32) -> Resul
         None => Ok(()),
         Some(step) => {
             let answer = carry(alloc, o, now, m, &i, attempt, &step);
-            drop_step(step);
+            drop(step);
             answer
         }
     }
@@ -270,6 +269,16 @@ pub fn answer(alloc: Global, o: &Opening, now: &mut Moment, attempt: u32) -> Res
     }
 }
 
+/// Adds an item. There is room.
+fn add<T: Drop>(items: &mut Vec<T>, item: T)
+    requires { vec_len items.old < vec_capacity items.old }
+    ensures { items.new.items ≡ items.old.items ++ item ∷ [] }
+{
+    if items.push(item).is_err() {
+        unreachable!();
+    }
+}
+
 /// A delivery of an invocation.
 #[tactic(auto, unfolding(crate::specs::Worlds::effect, crate::specs::Worlds::enabled))]
 pub fn deliver(o: &Opening, now: &mut Moment, inv: u32) -> Result<(), NoMemory>
@@ -281,9 +290,7 @@ pub fn deliver(o: &Opening, now: &mut Moment, inv: u32) -> Result<(), NoMemory>
     now.phases.reserve(1)?;
     match now.hub.queue.deliver(inv) {
         Ok(()) => {
-            if now.phases.push(Phase::Look).is_err() {
-                unreachable!();
-            }
+            add(&mut now.phases, Phase::Look);
             Ok(())
         }
         Err(QueueError::NoMemory) => Err(NoMemory),

@@ -10,6 +10,7 @@ use crate::held::{Held, Slot};
 use crate::hub::Store;
 use place_name::{Obj, WasMarked};
 use std::alloc::Global;
+use std::mem;
 use unum_json::NoMemory;
 
 /// What a Create did.
@@ -81,7 +82,7 @@ impl Store {
         match seek(self.items.as_slice(), object) {
             Some(i) => {
                 let item = &mut self.items[i];
-                item.1 = Slot::Mark;
+                drop(mem::replace(&mut item.1, Slot::Mark));
                 WasMarked::Done
             }
             None => WasMarked::Absent,

@@ -138,6 +138,24 @@ fn new_calls(alloc: Global, wanted: u32, most: usize) -> Result<Calls, Fail> {
     })
 }
 
+/// Whether the log has the 40 tickets from 0 to 39.
+fn has_each(calls: &Calls) -> bool {
+    let mut sum = 0;
+    for ticket in calls.items.iter() {
+        sum = *ticket ^ sum;
+    }
+    calls.items.len() == 40 && sum == 0
+}
+
+/// Whether the gate was called before and after each of these calls, and none was held too long.
+fn saw_each(gate: &Held) -> bool {
+    gate.gave_up.load(Ordering::SeqCst) == 0
+        && gate.calls.load(Ordering::SeqCst) == 40
+        && gate.answered.load(Ordering::SeqCst) == 40
+        && gate.tickets[0].load(Ordering::SeqCst) == 780
+        && gate.tickets[1].load(Ordering::SeqCst) == 780
+}
+
 #[test]
 fn two_calls_at_a_time(rt: HostRuntime) -> Result<(), Fail> {
     let calls = new_calls(rt.alloc(), 40, 100)?;
@@ -146,17 +164,7 @@ fn two_calls_at_a_time(rt: HostRuntime) -> Result<(), Fail> {
     let Worked { seat, ended } = work_all(&rt, &lock, seat, &BuiltIns::new(rt.alloc()), &gate);
     assert!(rt; ended == WorkEnd::Idle && seat.share() == 4);
     let calls = lock.close(seat);
-    let mut sum = 0;
-    for ticket in calls.items.iter() {
-        sum = *ticket ^ sum;
-    }
-    assert_eq!(rt; (calls.items.len(), sum), (40, 0));
-    assert_eq!(rt; gate.gave_up.load(Ordering::SeqCst), 0);
-    assert_eq!(rt; gate.calls.load(Ordering::SeqCst), 40);
-    assert_eq!(rt; gate.answered.load(Ordering::SeqCst), 40);
-    for tickets in gate.tickets.iter() {
-        assert_eq!(rt; tickets.load(Ordering::SeqCst), 780);
-    }
+    assert!(rt; has_each(&calls) && saw_each(&gate));
     Ok(())
 }
 

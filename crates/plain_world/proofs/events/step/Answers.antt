@@ -1,4 +1,5 @@
 use Rattle.std.proofs.Common.{◌≡◌, refl, sym, ap, ◌∙◌, map, slice_get, Some}
+use Rattle.std.proofs.lemmas.Result.{on_ok_weaker}
 use Rattle.world_model.specs.Program.{Do, Ask, Nothing, next_of}
 use Rattle.plain_world.specs.Views.{seen, attempt_of, invocation_of, doing_of, op_of}
 use Rattle.plain_world.proofs.Effects.{Found, step_none, step_lost, step_nothing, step_ask, step_done}
@@ -38,8 +39,8 @@ returns-in-Ask-clause-ok c =
     let n : Ask c.in-Ask.resource.now c.in-Ask.input ≡ next_of i t.phase = sym (ap doing_of c.in-Ask.is) ∙ c.in_ok-next_of.ensures in
     step_ask w c.args.attempt t i f c.in-Ask.resource.now c.in-Ask.input n
 
-pub returns-in_ok-perform-in-Do-clause-ok : goal.returns-in_ok-perform-in-Do-clause-ok
-returns-in_ok-perform-in-Do-clause-ok c =
+pub returns-in-Ok-clause-ok : goal.returns-in-Ok-clause-ok
+returns-in-Ok-clause-ok c =
     let w = seen c.args.world.now in
     let t = attempt_of c.in-Some.t.now in
     let i = invocation_of c.in-Some-invocation_at.i.now in
@@ -47,4 +48,4 @@ returns-in_ok-perform-in-Do-clause-ok c =
     let g : Some i ≡ slice_get w.invs t.inv = c.in-Some-invocation_at.ensures ∙ ap (λ l. slice_get (map invocation_of l) t.inv) c.as_slice-2.ensures.value in
     let f : Found w c.args.attempt t i = record { attempt = sym e; invocation = sym g } in
     let n : Do (op_of c.in-Do.op) ≡ next_of i t.phase = sym (ap doing_of c.in-Do.is) ∙ c.in_ok-next_of.ensures in
-    step_done w c.args.attempt t i f (op_of c.in-Do.op) (seen c.perform.new.world) _ _ n (c.in_ok-perform-in-Do.ensures.ok t refl) c.in_ok-after-in-Do.ensures c.set_attempt.ensures
+    on_ok_weaker c.carry_out.result (λ h. step_done w c.args.attempt t i f (op_of c.in-Do.op) (seen c.carry_out.new.world) (attempt_of c.in-Ok.after) n c.in-Ok.ensures (h t refl)) c.carry_out.ensures.ok

@@ -21,7 +21,7 @@ returns-in-Some-clause-objects c =
     let r : c.index_mut-item.result.now ≡ f.pair = c.index_mut-item.ensures.value ∙ f.reads c.index_mut-item.result.now in
     let P : Option Slot → Type 0 = λ s. look_in (slice_set ps c.in-Some.i (f.pair.0, slot.Mark)) ≡ marked (look_in ps) c.args.object.now s in
     let Q : Obj × Slot → Type 0 = λ p. look_in (slice_set ps c.in-Some.i (p.0, slot.Mark)) ≡ marked (look_in ps) c.args.object.now (look_in ps c.args.object.now) in
-    subst Q (sym r) (subst P (sym f.has) (f.set slot.Mark))
+    rw c.replace.ensures.after (subst Q (sym r) (subst P (sym f.has) (f.set slot.Mark)))
 
 pub returns-in-Some-clause-was : goal.returns-in-Some-clause-was
 returns-in-Some-clause-was c =

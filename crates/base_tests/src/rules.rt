@@ -1,12 +1,14 @@
-use crate::{
+//! Tests of `choice_rules`.
+use crate::rows::{cell, json, path};
+use asl_paths::Path;
+use choice_rules::{
     Comparison, NonEmpty, Op, OpKind, Operand, PathFailure, Pattern, PatternError, Rel, Rule,
     choose, copy_rule, is_sound, matches,
 };
-use asl_paths::Path;
 use sqlite_items::Boxed;
 use std::alloc::Global;
 use std::test::Fail;
-use unum_json::{Json, Text, copy, read, to_json};
+use unum_json::{Json, Text, copy, read};
 
 /// The value that the rules below are asked of.
 const VALUE: &str =
@@ -166,15 +168,6 @@ a\*c | a\*c
 a\ | -
 \\\ | -"#;
 
-/// The next cell of a row, and the rest of it.
-fn cell(row: &str) -> Result<(&str, &str), Fail> {
-    Ok(row.split_once(" | ").ok_or("a cell")?)
-}
-
-fn json(alloc: Global, text: &str) -> Result<Json, Fail> {
-    Ok(to_json(alloc, &read(alloc, text.as_bytes())?)?)
-}
-
 /// What the name of a comparison says of its kind, and the rest of it.
 fn kind(operator: &[u8]) -> Option<(OpKind, &[u8])> {
     if let Some(rest) = operator.strip_prefix(b"String".as_slice()) {
@@ -228,7 +221,7 @@ fn with_text(alloc: Global, operator: &[u8], text: &Text) -> Result<Option<Op>, 
     let Some(operator) = operator.strip_suffix(b"Path".as_slice()) else {
         return Ok(None);
     };
-    let path = Path::parse(alloc, text.as_bytes())?;
+    let path = path(alloc, text.as_str())?;
     Ok(comparison(operator, Operand::Found(path)))
 }
 
@@ -248,7 +241,7 @@ fn op(alloc: Global, operator: &[u8], operand: &Json) -> Result<Op, Fail> {
 }
 
 fn rule(alloc: Global, variable: &str, op: Op) -> Result<Rule, Fail> {
-    let variable = Path::parse(alloc, variable.as_bytes())?;
+    let variable = path(alloc, variable)?;
     Ok(Rule::Test { variable, op })
 }
 
@@ -274,86 +267,130 @@ fn told(answer: Result<bool, PathFailure>) -> &'static str {
     }
 }
 
+/// The copy of a rule.
+fn read_rule(alloc: Global, variable: &str, operator: &str, operand: &str) -> Result<Rule, Fail> {
+    let operand = json(alloc, operand)?;
+    let op = op(alloc, operator.as_bytes(), &operand)?;
+    let rule = rule(alloc, variable, op)?;
+    Ok(copy_rule(alloc, &rule)?)
+}
+
+fn asks_so(alloc: Global, value: &Json, row: &str) -> Result<bool, Fail> {
+    let (variable, row) = cell(row)?;
+    let (operator, row) = cell(row)?;
+    let (operand, wanted) = cell(row)?;
+    let rule = read_rule(alloc, variable, operator, operand)?;
+    Ok(told(matches(&rule, value)) == wanted)
+}
+
 #[test]
 fn asks_by_operators(rt: HostRuntime) -> Result<(), Fail> {
-    let alloc = rt.alloc();
-    let value = json(alloc, VALUE)?;
+    let value = json(rt.alloc(), VALUE)?;
     for row in TESTED.lines() {
-        let (variable, row) = cell(row)?;
-        let (operator, row) = cell(row)?;
-        let (operand, wanted) = cell(row)?;
-        let op = op(alloc, operator.as_bytes(), &json(alloc, operand)?)?;
-        let rule = copy_rule(alloc, &rule(alloc, variable, op)?)?;
-        assert_eq!(rt;
-            told(matches(&rule, &value)),
-            wanted,
-            "{variable} {operator} {operand}"
+        assert!(rt; asks_so(rt.alloc(), &value, row)?, "{row}");
+    }
+    Ok(())
+}
+
+/// The rules that these letters are, where there are some.
+fn some_rules(alloc: Global, letters: &str) -> Result<NonEmpty<Rule>, Fail> {
+    let rules = rules(alloc, letters)?;
+    if rules.is_empty() {
+        return Err("a rule".into());
+    }
+    Ok(NonEmpty::from_vec(rules))
+}
+
+/// Whether all of these rules match by one rule, and by a rule that turns another.
+fn all_match(
+    alloc: Global,
+    value: &Json,
+    letters: &str,
+) -> Result<(&'static str, &'static str), Fail> {
+    let and = Rule::And(some_rules(alloc, letters)?);
+    let straight = matches(&and, value);
+    let not = Rule::Not(Boxed::new(alloc, and)?);
+    let not = copy_rule(alloc, &not)?;
+    let turned = matches(&not, value).map(|matched| !matched);
+    Ok((told(straight), told(turned)))
+}
+
+fn some_match(alloc: Global, value: &Json, letters: &str) -> Result<&'static str, Fail> {
+    let or = Rule::Or(some_rules(alloc, letters)?);
+    let or = copy_rule(alloc, &or)?;
+    Ok(told(matches(&or, value)))
+}
+
+#[test]
+fn joins_rules(rt: HostRuntime) -> Result<(), Fail> {
+    let value = json(rt.alloc(), VALUE)?;
+    for row in JOINED.lines() {
+        let (letters, row) = cell(row)?;
+        let (all, some) = cell(row)?;
+        let found = all_match(rt.alloc(), &value, letters)?;
+        assert!(rt; found.0 == all && found.1 == all, "{letters}");
+        assert!(rt;
+            some_match(rt.alloc(), &value, letters)? == some,
+            "{letters}"
         );
     }
     Ok(())
 }
 
-#[test]
-fn joins_rules(rt: HostRuntime) -> Result<(), Fail> {
-    let alloc = rt.alloc();
-    let value = json(alloc, VALUE)?;
-    for row in JOINED.lines() {
-        let (letters, row) = cell(row)?;
-        let (all, some) = cell(row)?;
-        let together = rules(alloc, letters)?;
-        let apart = rules(alloc, letters)?;
-        assert!(rt; !together.is_empty() && !apart.is_empty());
-        let and = Rule::And(NonEmpty::from_vec(together));
-        let or = copy_rule(alloc, &Rule::Or(NonEmpty::from_vec(apart)))?;
-        assert_eq!(rt; told(matches(&and, &value)), all, "{letters}");
-        assert_eq!(rt; told(matches(&or, &value)), some, "{letters}");
-        let not = copy_rule(alloc, &Rule::Not(Boxed::new(alloc, and)?))?;
-        let turned = matches(&not, &value).map(|matched| !matched);
-        assert_eq!(rt; told(turned), all, "{letters}");
+/// What is chosen of the rules that these letters are.
+fn chosen(alloc: Global, value: &Json, letters: &str) -> Result<String, Fail> {
+    let rules = rules(alloc, letters)?;
+    if rules.len() > 9 {
+        return Err("few rules".into());
     }
-    Ok(())
+    match choose(rules.as_slice(), value) {
+        Ok(Some(index)) => Ok(index.to_string(alloc)?),
+        Ok(None) => Ok(String::from_str(alloc, "none")?),
+        Err(PathFailure) => Ok(String::from_str(alloc, "fails")?),
+    }
 }
 
 #[test]
 fn chooses_the_first(rt: HostRuntime) -> Result<(), Fail> {
-    let alloc = rt.alloc();
-    let value = json(alloc, VALUE)?;
+    let value = json(rt.alloc(), VALUE)?;
     for row in CHOSEN.lines() {
         let (letters, wanted) = cell(row)?;
-        let rules = rules(alloc, letters)?;
-        assert!(rt; rules.len() < 10);
-        let chosen = match choose(rules.as_slice(), &value) {
-            Ok(Some(index)) => index.to_string(alloc)?,
-            Ok(None) => String::from_str(alloc, "none")?,
-            Err(PathFailure) => String::from_str(alloc, "fails")?,
-        };
-        assert_eq!(rt; chosen.as_str(), wanted, "{letters}");
+        let chosen = chosen(rt.alloc(), &value, letters)?;
+        assert!(rt; chosen.as_str() == wanted, "{letters}");
     }
     Ok(())
+}
+
+fn matches_so(alloc: Global, row: &str) -> Result<bool, Fail> {
+    let (pattern, row) = cell(row)?;
+    let (text, wanted) = cell(row)?;
+    let pattern = Pattern::read(alloc, pattern)?;
+    Ok(told(Ok(pattern.matches(text))) == wanted)
 }
 
 #[test]
 fn matches_patterns(rt: HostRuntime) -> Result<(), Fail> {
     for row in PATTERNS.lines() {
-        let (pattern, row) = cell(row)?;
-        let (text, wanted) = cell(row)?;
-        let pattern = Pattern::read(rt.alloc(), pattern)?;
-        assert_eq!(rt; told(Ok(pattern.matches(text))), wanted, "{text}");
+        assert!(rt; matches_so(rt.alloc(), row)?, "{row}");
     }
     Ok(())
 }
 
+/// The canonical text of a pattern, or `-` where it is none.
+fn spelled(alloc: Global, text: &str) -> Result<Text, Fail> {
+    match Pattern::read(alloc, text) {
+        Ok(pattern) => Ok(pattern.spell(alloc)?),
+        Err(PatternError::LoneBackslash) => Ok(Text::from_str(alloc, "-")?),
+        Err(PatternError::NoMemory) => Err("no memory".into()),
+    }
+}
+
 #[test]
 fn spells_patterns(rt: HostRuntime) -> Result<(), Fail> {
-    let alloc = rt.alloc();
     for row in SPELLED.lines() {
         let (text, wanted) = cell(row)?;
-        let spelled = match Pattern::read(alloc, text) {
-            Ok(pattern) => pattern.spell(alloc)?,
-            Err(PatternError::LoneBackslash) => Text::from_str(alloc, "-")?,
-            Err(PatternError::NoMemory) => return Err("no memory".into()),
-        };
-        assert_eq!(rt; spelled.as_str(), wanted, "{text}");
+        let spelled = spelled(rt.alloc(), text)?;
+        assert!(rt; spelled.as_str() == wanted, "{text}");
     }
     Ok(())
 }

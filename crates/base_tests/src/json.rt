@@ -1,11 +1,12 @@
-use crate::{
+//! Tests of `unum_json`.
+use crate::rows::json;
+use std::alloc::Global;
+use std::test::Fail;
+use unum_json::{
     Fault, Fields, Items, Json, JsonError, NoMemory, Outcome, Text, WholeError, copy, copy_outcome,
     copy_text, depth, is_small, nodes, outcome_json, read, same, same_outcome, same_text, to_json,
     to_text,
 };
-use std::alloc::Global;
-use std::process::Abort;
-use std::test::Fail;
 
 /// A text, and the compact text of its value.
 const WRITTEN: [(&str, &str); 17] = [
@@ -136,19 +137,18 @@ const DIFFERENT: [&str; 15] = [
     "{\"a\":0,\"b\":0}",
 ];
 
-// The value that a text spells.
-fn value_of(alloc: Global, text: &str) -> Result<Json, Fail> {
-    let value = read(alloc, text.as_bytes())?;
-    Ok(to_json(alloc, &value)?)
+/// Whether the value of a text has this compact text, which has the same value.
+fn is_written(alloc: Global, text: &str, want: &str) -> Result<bool, Fail> {
+    let value = json(alloc, text)?;
+    let is_compact = to_text(alloc, &value)?.as_str() == want;
+    let again = json(alloc, want)?;
+    Ok(is_compact && same(&value, &again))
 }
 
 #[test]
 fn text_is_compact_and_exact(rt: HostRuntime) -> Result<(), Fail> {
     for (text, want) in &WRITTEN {
-        let value = value_of(rt.alloc(), text)?;
-        assert_eq!(rt; to_text(rt.alloc(), &value)?.as_str(), *want);
-        let again = value_of(rt.alloc(), want)?;
-        assert!(rt; same(&value, &again), "{want:?}");
+        assert!(rt; is_written(rt.alloc(), text, want)?, "{want:?}");
     }
     Ok(())
 }
@@ -179,7 +179,7 @@ fn numbers_that_are_not_whole(rt: HostRuntime) -> Result<(), Fail> {
 #[test]
 fn sizes_of_values(rt: HostRuntime) -> Result<(), Fail> {
     for (text, count, deep) in &SIZES {
-        let value = value_of(rt.alloc(), text)?;
+        let value = json(rt.alloc(), text)?;
         assert!(rt;
             nodes(&value) == *count && depth(&value) == *deep,
             "{text:?}"
@@ -231,13 +231,18 @@ fn long_values(rt: HostRuntime) -> Result<(), Fail> {
     Ok(())
 }
 
+/// Whether a value is the same as the copy of another.
+fn is_copy(alloc: Global, value: &Json, other: &str) -> Result<bool, Fail> {
+    let other = copy(alloc, &json(alloc, other)?)?;
+    Ok(same(value, &other))
+}
+
 #[test]
 fn copies_are_the_same(rt: HostRuntime) -> Result<(), Fail> {
     for (i, left) in DIFFERENT.iter().enumerate() {
-        let value = value_of(rt.alloc(), left)?;
+        let value = json(rt.alloc(), left)?;
         for (j, right) in DIFFERENT.iter().enumerate() {
-            let other = copy(rt.alloc(), &value_of(rt.alloc(), right)?)?;
-            assert!(rt; same(&value, &other) == (i == j), "{left:?} {right:?}");
+            assert!(rt; is_copy(rt.alloc(), &value, right)? == (i == j), "{i} {j}");
         }
     }
     Ok(())
@@ -249,28 +254,28 @@ fn failed(alloc: Global, error: &str, cause: &str) -> Result<Outcome, NoMemory> 
     Ok(Outcome::Failed(Fault { error, cause }))
 }
 
-fn is_spelled(
-    rt: &impl Abort,
-    alloc: Global,
-    outcome: &Outcome,
-    want: &str,
-) -> Result<(), NoMemory> {
-    let text = to_text(alloc, &outcome_json(alloc, outcome)?)?;
-    assert!(rt; text.as_str() == want, "{want:?}");
+/// Whether an outcome has this text, and is the same as its copy.
+fn is_spelled(alloc: Global, outcome: &Outcome, want: &str) -> Result<bool, NoMemory> {
     let again = copy_outcome(alloc, outcome)?;
-    assert!(rt; same_outcome(outcome, &again), "{want:?}");
-    Ok(())
+    let same = same_outcome(outcome, &again);
+    Ok(to_text(alloc, &outcome_json(alloc, outcome)?)?.as_str() == want && same)
 }
 
 #[test]
 fn outcomes(rt: HostRuntime) -> Result<(), Fail> {
-    let one = Outcome::Done(value_of(rt.alloc(), "[1]")?);
-    is_spelled(&rt, rt.alloc(), &one, "{\"ok\":[1]}")?;
+    let one = Outcome::Done(json(rt.alloc(), "[1]")?);
+    assert!(rt; is_spelled(rt.alloc(), &one, "{\"ok\":[1]}")?);
     let two = failed(rt.alloc(), "States.Runtime", "a\n")?;
     let text = "{\"fail\":{\"Cause\":\"a\\n\",\"Error\":\"States.Runtime\"}}";
-    is_spelled(&rt, rt.alloc(), &two, text)?;
-    let three = failed(rt.alloc(), "a\n", "States.Runtime")?;
-    assert!(rt; !same_outcome(&one, &two) && !same_outcome(&two, &three));
+    assert!(rt; is_spelled(rt.alloc(), &two, text)? && !same_outcome(&one, &two));
+    Ok(())
+}
+
+#[test]
+fn outcomes_differ(rt: HostRuntime) -> Result<(), Fail> {
+    let one = failed(rt.alloc(), "States.Runtime", "a\n")?;
+    let two = failed(rt.alloc(), "a\n", "States.Runtime")?;
+    assert!(rt; !same_outcome(&one, &two));
     Ok(())
 }
 
@@ -284,12 +289,18 @@ fn texts(rt: HostRuntime) -> Result<(), Fail> {
     Ok(())
 }
 
+/// Fields by key, of which one is written over.
+fn letters(alloc: Global) -> Result<Fields<u8>, NoMemory> {
+    let mut fields = Fields::new(alloc);
+    for (key, value) in [("b", 1u8), ("", 2), ("a", 3), ("b", 4), ("aa", 5)] {
+        fields.insert(Text::from_str(alloc, key)?, value)?;
+    }
+    Ok(fields)
+}
+
 #[test]
 fn fields_by_key(rt: HostRuntime) -> Result<(), Fail> {
-    let mut fields = Fields::new(rt.alloc());
-    for (key, value) in [("b", 1u8), ("", 2), ("a", 3), ("b", 4), ("aa", 5)] {
-        fields.insert(Text::from_str(rt.alloc(), key)?, value)?;
-    }
+    let fields = letters(rt.alloc())?;
     assert!(rt; fields.get(b"b").copied() == Some(4) && fields.get(b"c").is_none());
     assert!(rt; fields.len() == 4 && !fields.is_empty());
     for (pair, want) in fields

@@ -1,16 +1,17 @@
+//! Tests of `unum_world`.
 ghost use Rattle.std.specs.Prelude.{◌≤◌, IfOk};
 ghost use Rattle.unum_world.specs.Links.{IsChain};
 ghost use Rattle.unum_world.specs.Seen.{Fits};
 
-use crate::{
-    ApplyError, Entry, Event, Mishap, Opening, Plan, Planned, Session, SessionState, Settled,
-    Totals, World, task,
-};
 use asl_model::{After, Block, Machine};
 use fn_table::{BuiltIns, FnKind, Functions, Table};
 use std::alloc::Global;
 use std::test::Fail;
 use unum_json::{Fields, Items, Json, NoMemory, Outcome, Text};
+use unum_world::{
+    ApplyError, Entry, Event, Mishap, Opening, Plan, Planned, Session, SessionState, Settled,
+    Totals, World, task,
+};
 
 /// A machine of one Task, which calls an echo.
 fn one_task(alloc: Global) -> Result<Machine, NoMemory>

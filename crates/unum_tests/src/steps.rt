@@ -1,10 +1,11 @@
+//! Tests of `plain_steps`.
 ghost use Rattle.asl_model.specs.Shapes.{HasPathsOnly};
 
-use crate::{Begun, Onward, Stop, Used, Visited, after, begin, combine, finish, limit_of};
 use asl_model::{After, Block, Care, Catcher, MapShape, PathShape, Retrier, State, TopRule};
 use asl_paths::Path;
 use asl_shape::Shape;
 use choice_rules::{Op, Rule};
+use plain_steps::{Begun, Onward, Stop, Used, Visited, after, begin, combine, finish, limit_of};
 use sqlite_items::Boxed;
 use std::alloc::Global;
 use std::test::Fail;
@@ -12,117 +13,131 @@ use unum_json::{
     Fault, Fields, Items, Json, Outcome, Text, copy_items, outcome_json, read, to_json, to_text,
 };
 
-/// A visit: the name of its state (none for the Enter), its hop, its raw data, and how often each retrier was taken. Then its
-/// answer: the error and its cause, or no error and the value. At last the stop that follows.
-const STOPS: [(&str, u32, &str, &[u32], &str, &str, &str); 12] = [
-    (
-        "",
-        0,
-        "null",
-        &[],
-        "",
-        r#"{"go":1}"#,
-        r#"call Work 1 {"go":1} [0]"#,
-    ),
-    (
-        "",
-        0,
-        "null",
-        &[],
-        "",
-        r#"{"x":1}"#,
-        r#"over {"ok":{"x":1}}"#,
-    ),
-    (
-        "",
-        0,
-        "null",
-        &[],
-        "E",
-        "c",
-        r#"over {"fail":{"Cause":"c","Error":"E"}}"#,
-    ),
-    (
-        "Work",
-        1,
-        r#"{"go":1}"#,
-        &[0],
-        "E",
-        "c",
-        r#"call Work 2 {"go":1} [1]"#,
-    ),
-    (
-        "Work",
-        1,
-        r#"{"go":1}"#,
-        &[2],
-        "E",
-        "c",
-        r#"over {"fail":{"Cause":"Each","Error":"Unum.PathFailure"}}"#,
-    ),
-    (
-        "Work",
-        1,
-        r#"{"go":1,"list":[1,2]}"#,
-        &[0],
-        "F",
-        "c",
-        r#"fan Each 2 {"error":{"Cause":"c","Error":"F"},"go":1,"list":[1,2]} [] [1,2]"#,
-    ),
-    (
-        "Work",
-        1,
-        r#"{"go":1}"#,
-        &[1],
-        "",
-        r#"{"list":[3]}"#,
-        r#"fan Each 2 {"list":[3]} [] [3]"#,
-    ),
-    (
-        "Each",
-        1999,
-        r#"{"list":[3]}"#,
-        &[],
-        "",
-        "[3]",
-        r#"over {"ok":[3]}"#,
-    ),
-    (
-        "Each",
-        3,
-        r#"{"list":[3]}"#,
-        &[],
-        "States.TaskFailed",
-        "c",
-        r#"over {"fail":{"Cause":"c","Error":"States.TaskFailed"}}"#,
-    ),
-    (
-        "Work",
-        1998,
-        r#"{"go":1}"#,
-        &[1],
-        "E",
-        "c",
-        r#"call Work 1999 {"go":1} [2]"#,
-    ),
-    (
-        "Work",
-        1999,
-        r#"{"go":1}"#,
-        &[0],
-        "E",
-        "c",
-        r#"over {"fail":{"Cause":"Work","Error":"Unum.HopLimit"}}"#,
-    ),
-    (
-        "Each",
-        1999,
-        "null",
-        &[],
-        "E",
-        "c",
-        r#"over {"fail":{"Cause":"c","Error":"E"}}"#,
-    ),
+/// A visit and its answer, and the stop that follows.
+struct Row {
+    /// The name of the visit's state, or none for the Enter.
+    state: &'static str,
+    hop: u32,
+    /// The raw data, as text.
+    raw: &'static str,
+    /// How often each retrier was taken.
+    used: &'static [u32],
+    /// The error of the answer, or none where there is a value.
+    error: &'static str,
+    /// The error's cause, or the value as text.
+    answer: &'static str,
+    stop: &'static str,
+}
+
+const STOPS: [Row; 12] = [
+    Row {
+        state: "",
+        hop: 0,
+        raw: "null",
+        used: &[],
+        error: "",
+        answer: r#"{"go":1}"#,
+        stop: r#"call Work 1 {"go":1} [0]"#,
+    },
+    Row {
+        state: "",
+        hop: 0,
+        raw: "null",
+        used: &[],
+        error: "",
+        answer: r#"{"x":1}"#,
+        stop: r#"over {"ok":{"x":1}}"#,
+    },
+    Row {
+        state: "",
+        hop: 0,
+        raw: "null",
+        used: &[],
+        error: "E",
+        answer: "c",
+        stop: r#"over {"fail":{"Cause":"c","Error":"E"}}"#,
+    },
+    Row {
+        state: "Work",
+        hop: 1,
+        raw: r#"{"go":1}"#,
+        used: &[0],
+        error: "E",
+        answer: "c",
+        stop: r#"call Work 2 {"go":1} [1]"#,
+    },
+    Row {
+        state: "Work",
+        hop: 1,
+        raw: r#"{"go":1}"#,
+        used: &[2],
+        error: "E",
+        answer: "c",
+        stop: r#"over {"fail":{"Cause":"Each","Error":"Unum.PathFailure"}}"#,
+    },
+    Row {
+        state: "Work",
+        hop: 1,
+        raw: r#"{"go":1,"list":[1,2]}"#,
+        used: &[0],
+        error: "F",
+        answer: "c",
+        stop: r#"fan Each 2 {"error":{"Cause":"c","Error":"F"},"go":1,"list":[1,2]} [] [1,2]"#,
+    },
+    Row {
+        state: "Work",
+        hop: 1,
+        raw: r#"{"go":1}"#,
+        used: &[1],
+        error: "",
+        answer: r#"{"list":[3]}"#,
+        stop: r#"fan Each 2 {"list":[3]} [] [3]"#,
+    },
+    Row {
+        state: "Each",
+        hop: 1999,
+        raw: r#"{"list":[3]}"#,
+        used: &[],
+        error: "",
+        answer: "[3]",
+        stop: r#"over {"ok":[3]}"#,
+    },
+    Row {
+        state: "Each",
+        hop: 3,
+        raw: r#"{"list":[3]}"#,
+        used: &[],
+        error: "States.TaskFailed",
+        answer: "c",
+        stop: r#"over {"fail":{"Cause":"c","Error":"States.TaskFailed"}}"#,
+    },
+    Row {
+        state: "Work",
+        hop: 1998,
+        raw: r#"{"go":1}"#,
+        used: &[1],
+        error: "E",
+        answer: "c",
+        stop: r#"call Work 1999 {"go":1} [2]"#,
+    },
+    Row {
+        state: "Work",
+        hop: 1999,
+        raw: r#"{"go":1}"#,
+        used: &[0],
+        error: "E",
+        answer: "c",
+        stop: r#"over {"fail":{"Cause":"Work","Error":"Unum.HopLimit"}}"#,
+    },
+    Row {
+        state: "Each",
+        hop: 1999,
+        raw: "null",
+        used: &[],
+        error: "E",
+        answer: "c",
+        stop: r#"over {"fail":{"Cause":"c","Error":"E"}}"#,
+    },
 ];
 
 /// What a state was entered with, and its answer.
@@ -296,19 +311,13 @@ fn visited_in<'m>(block: &'m Block, name: &str) -> Visited<'m> {
     Visited::Enter
 }
 
-fn told_after(
-    alloc: Global,
-    block: &Block,
-    name: &str,
-    hop: u32,
-    given: &Given,
-) -> Result<String, Fail> {
-    let visited = visited_in(block, name);
+fn told_after(alloc: Global, block: &Block, row: &Row, given: &Given) -> Result<String, Fail> {
+    let visited = visited_in(block, row.state);
     let stop = after(
         alloc,
         block,
         visited,
-        hop,
+        row.hop,
         &given.raw,
         &given.used,
         &given.answer,
@@ -316,18 +325,23 @@ fn told_after(
     told(alloc, &stop)
 }
 
+fn given_by(alloc: Global, row: &Row) -> Result<Given, Fail> {
+    let raw = json(alloc, row.raw)?;
+    let used = Items::from_slice(alloc, row.used)?;
+    let answer = outcome(alloc, row.error, row.answer)?;
+    Ok(Given { raw, used, answer })
+}
+
+fn stops_so(alloc: Global, block: &Block, row: &Row) -> Result<bool, Fail> {
+    let given = given_by(alloc, row)?;
+    Ok(told_after(alloc, block, row, &given)?.as_str() == row.stop)
+}
+
 #[test]
 fn stops(rt: HostRuntime) -> Result<(), Fail> {
-    let alloc = rt.alloc();
-    let block = block(alloc)?;
-    for (name, hop, raw, used, error, answer, wanted) in STOPS {
-        let given = Given {
-            raw: json(alloc, raw)?,
-            used: Items::from_slice(alloc, used)?,
-            answer: outcome(alloc, error, answer)?,
-        };
-        let stop = told_after(alloc, &block, name, hop, &given)?;
-        assert_eq!(rt; stop.as_str(), wanted);
+    let block = block(rt.alloc())?;
+    for row in &STOPS {
+        assert!(rt; stops_so(rt.alloc(), &block, row)?, "{}", row.stop);
     }
     Ok(())
 }
@@ -350,29 +364,36 @@ fn told_onward(alloc: Global, onward: &Onward<'_>) -> Result<String, Fail> {
     }
 }
 
+fn told_first(alloc: Global, name: &Text, state: &State, raw: &Json) -> Result<String, Fail> {
+    let begun = begin(alloc, name, state, raw)?;
+    told_begun(alloc, &begun)
+}
+
+fn told_then(alloc: Global, name: &Text, state: &State, raw: &Json) -> Result<String, Fail> {
+    let used: Used = Items::new(alloc);
+    let answer = Outcome::Done(Json::Int(5));
+    let onward = finish(alloc, name, state, raw, &used, &answer)?;
+    told_onward(alloc, &onward)
+}
+
 /// What a state does first, and how it goes on after the answer 5.
 fn told_state(alloc: Global, state: &State) -> Result<String, Fail> {
     let name = Text::from_str(alloc, "S")?;
     let raw = json(alloc, r#"{"list":[7,8]}"#)?;
-    let begun = begin(alloc, &name, state, &raw)?;
-    let first = told_begun(alloc, &begun)?;
-    let used: Used = Items::new(alloc);
-    let answer = Outcome::Done(Json::Int(5));
-    let onward = finish(alloc, &name, state, &raw, &used, &answer)?;
-    let then = told_onward(alloc, &onward)?;
+    let first = told_first(alloc, &name, state, &raw)?;
+    let then = told_then(alloc, &name, state, &raw)?;
     let limit = limit_of(state);
     Ok(format!(in alloc; "{limit}, {}, {}", first.as_str(), then.as_str())?)
 }
 
 #[test]
 fn states(rt: HostRuntime) -> Result<(), Fail> {
-    let alloc = rt.alloc();
-    let work = told_state(alloc, &work(alloc)?)?;
-    assert_eq!(rt; work.as_str(), "0, calls f, Each 5");
-    let each = told_state(alloc, &each(alloc)?)?;
-    assert_eq!(rt; each.as_str(), r#"2, fans 2, over {"ok":5}"#);
-    let pick = told_state(alloc, &pick(alloc)?)?;
-    assert_eq!(rt; pick.as_str(), r#"0, on, over {"ok":5}"#);
+    let told = told_state(rt.alloc(), &work(rt.alloc())?)?;
+    assert!(rt; told.as_str() == "0, calls f, Each 5");
+    let told = told_state(rt.alloc(), &each(rt.alloc())?)?;
+    assert!(rt; told.as_str() == r#"2, fans 2, over {"ok":5}"#);
+    let told = told_state(rt.alloc(), &pick(rt.alloc())?)?;
+    assert!(rt; told.as_str() == r#"0, on, over {"ok":5}"#);
     Ok(())
 }
 
@@ -388,13 +409,9 @@ fn told_join(alloc: Global, errors: [&str; 3]) -> Result<String, Fail> {
 
 #[test]
 fn combines(rt: HostRuntime) -> Result<(), Fail> {
-    let alloc = rt.alloc();
-    let joined = told_join(alloc, ["", "", ""])?;
-    assert_eq!(rt; joined.as_str(), r#"over {"ok":[1,1,1]}"#);
-    let failed = told_join(alloc, ["", "F", "E"])?;
-    assert_eq!(rt;
-        failed.as_str(),
-        r#"over {"fail":{"Cause":"1","Error":"F"}}"#
-    );
+    let joined = told_join(rt.alloc(), ["", "", ""])?;
+    assert!(rt; joined.as_str() == r#"over {"ok":[1,1,1]}"#);
+    let failed = told_join(rt.alloc(), ["", "F", "E"])?;
+    assert!(rt; failed.as_str() == r#"over {"fail":{"Cause":"1","Error":"F"}}"#);
     Ok(())
 }

@@ -1,10 +1,11 @@
+//! Tests of `unum_io`.
 ghost use Rattle.std.specs.Prelude.{None};
 
-use crate::{
-    Failed, MemSink, MemSource, ReadAll, Sink, Source, StdSink, StdSource, read_all, write_all,
-};
 use std::io::{self, ErrorKind};
 use std::test::Fail;
+use unum_io::{
+    Failed, MemSink, MemSource, ReadAll, Sink, Source, StdSink, StdSource, read_all, write_all,
+};
 
 #[test]
 fn reads_to_the_end(rt: HostRuntime) -> Result<(), Fail> {
