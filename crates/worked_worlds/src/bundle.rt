@@ -12,19 +12,21 @@ use unum_json::{Fault as Failure, Fields, Items, Json, Text, copy, copy_text, re
 /// The machines by name.
 pub type Machines = Fields<Machine>;
 
+fn failing(alloc: Global, fields: &Fields<Json>) -> Result<FnKind, Fault> {
+    let error = text_at(alloc, fields, b"error")?;
+    let cause = text_at(alloc, fields, b"cause")?;
+    Ok(FnKind::Fail(Failure { error, cause }))
+}
+
 fn kind_of(alloc: Global, value: &Json) -> Result<FnKind, Fault> {
     let fields = members(value)?;
-    match text(needed(fields, b"kind")?)?.as_bytes() {
-        b"echo" => Ok(FnKind::Echo),
-        b"const" => Ok(FnKind::Const(copy(alloc, needed(fields, b"value")?)?)),
-        b"sum" => Ok(FnKind::Sum),
-        b"ticket" => Ok(FnKind::Ticket),
-        b"flaky" => Ok(FnKind::Flaky(number(needed(fields, b"every")?)?)),
-        b"fail" => {
-            let error = text_at(alloc, fields, b"error")?;
-            let cause = text_at(alloc, fields, b"cause")?;
-            Ok(FnKind::Fail(Failure { error, cause }))
-        }
+    match text(needed(fields, b"kind")?)?.as_str() {
+        "echo" => Ok(FnKind::Echo),
+        "const" => Ok(FnKind::Const(copy(alloc, needed(fields, b"value")?)?)),
+        "sum" => Ok(FnKind::Sum),
+        "ticket" => Ok(FnKind::Ticket),
+        "flaky" => Ok(FnKind::Flaky(number(needed(fields, b"every")?)?)),
+        "fail" => failing(alloc, fields),
         _ => Err(Fault::NotRead),
     }
 }
@@ -54,6 +56,29 @@ pub fn machines(alloc: Global, bundle: &Json) -> Result<Machines, Fault> {
     Ok(all)
 }
 
+fn session<'m>(
+    alloc: Global,
+    fields: &Fields<Json>,
+    machines: &'m Machines,
+) -> Result<Session<'m>, Fault> {
+    let name = text(needed(fields, b"machine")?)?;
+    let machine = machines.get(name.as_bytes()).ok_or(Fault::NotRead)?;
+    let input = copy(alloc, needed(fields, b"input")?)?;
+    Ok(Session { machine, input })
+}
+
+fn sessions<'m>(
+    alloc: Global,
+    list: &Items<Json>,
+    machines: &'m Machines,
+) -> Result<Items<Session<'m>>, Fault> {
+    let mut all = Items::new(alloc);
+    for item in list.as_slice() {
+        all.push(session(alloc, members(item)?, machines)?)?;
+    }
+    Ok(all)
+}
+
 /// The opening of a bundle with these machines.
 pub fn opening<'m>(
     alloc: Global,
@@ -61,15 +86,9 @@ pub fn opening<'m>(
     machines: &'m Machines,
 ) -> Result<Opening<'m>, Fault> {
     let fields = members(bundle)?;
+    let list = items(needed(fields, b"sessions")?)?;
     let functions = functions(alloc, needed(fields, b"functions")?)?;
-    let mut sessions = Items::new(alloc);
-    for item in items(needed(fields, b"sessions")?)?.as_slice() {
-        let session = members(item)?;
-        let name = text(needed(session, b"machine")?)?;
-        let machine = machines.get(name.as_bytes()).ok_or(Fault::NotRead)?;
-        let input = copy(alloc, needed(session, b"input")?)?;
-        sessions.push(Session { machine, input })?;
-    }
+    let sessions = sessions(alloc, list, machines)?;
     Ok(Opening {
         functions,
         sessions,

@@ -36,7 +36,7 @@ fn catcher(alloc: Global, fields: &Fields<Json>) -> Result<Catcher, Fault> {
     })
 }
 
-pub fn care(alloc: Global, fields: &Fields<Json>) -> Result<Care, Fault> {
+fn care(alloc: Global, fields: &Fields<Json>) -> Result<Care, Fault> {
     let mut retry = Items::new(alloc);
     if let Some(value) = fields.get(b"Retry") {
         for item in items(value)?.as_slice() {
@@ -50,4 +50,11 @@ pub fn care(alloc: Global, fields: &Fields<Json>) -> Result<Care, Fault> {
         }
     }
     Ok(Care { retry, catch })
+}
+
+/// What follows a state that a function answers, and what it does about errors.
+pub fn onward(alloc: Global, fields: &Fields<Json>) -> Result<(After, Care), Fault> {
+    let after = after(alloc, fields)?;
+    let care = care(alloc, fields)?;
+    Ok((after, care))
 }

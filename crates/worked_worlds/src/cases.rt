@@ -1,17 +1,22 @@
 //! One case.
 
-use crate::bundle::{bundle, machines, opening};
+use crate::bundle::{Machines, bundle, machines, opening};
 use crate::fault::Fault;
 use crate::listed::{Group, event, group_of};
 use crate::report::{Counts, report};
 use plain_world::{ApplyError, Doing, Event, Op, World};
 use std::alloc::{AllocError, Global};
-use unum_json::NoMemory;
+use unum_json::{Json, NoMemory};
 
 /// Whether the event is a Mark.
 fn is_mark(alloc: Global, world: &World<'_>, e: Event) -> Result<bool, Fault> {
     match e {
-        Event::Step(a) => Ok(matches!(world.doing(alloc, a)?, Doing::Do(Op::Mark(_)))),
+        Event::Step(a) => {
+            let doing = world.doing(alloc, a)?;
+            let mark = matches!(doing, Doing::Do(Op::Mark(_)));
+            drop(doing);
+            Ok(mark)
+        }
         _ => Ok(false),
     }
 }
@@ -63,10 +68,8 @@ fn push_refusal(out: &mut String, at: u32, events: Group) -> Result<(), NoMemory
     Ok(())
 }
 
-fn run(alloc: Global, given: &str, listed: &str) -> Result<String, Fault> {
-    let bundle = bundle(alloc, given)?;
-    let machines = machines(alloc, &bundle)?;
-    let mut world = World::open(alloc, opening(alloc, &bundle, &machines)?)?;
+/// The report after these events in that world.
+fn run_events(alloc: Global, world: &mut World<'_>, listed: &str) -> Result<String, Fault> {
     let mut counts = Counts {
         events: 0,
         crashes: 0,
@@ -77,13 +80,37 @@ fn run(alloc: Global, given: &str, listed: &str) -> Result<String, Fault> {
             continue;
         }
         let events = group_of(word.as_bytes())?;
-        if !made_all(alloc, &mut world, &mut counts, events)? {
-            let mut out = report(alloc, &world, &counts)?;
+        if !made_all(alloc, world, &mut counts, events)? {
+            let mut out = report(alloc, world, &counts)?;
             push_refusal(&mut out, counts.events, events)?;
             return Ok(out);
         }
     }
-    report(alloc, &world, &counts)
+    report(alloc, world, &counts)
+}
+
+fn run_machines(
+    alloc: Global,
+    bundle: &Json,
+    machines: &Machines,
+    listed: &str,
+) -> Result<String, Fault> {
+    let mut world = World::open(alloc, opening(alloc, bundle, machines)?)?;
+    let told = run_events(alloc, &mut world, listed);
+    drop(world);
+    told
+}
+
+fn run_bundle(alloc: Global, bundle: &Json, listed: &str) -> Result<String, Fault> {
+    let machines = machines(alloc, bundle)?;
+    let told = run_machines(alloc, bundle, &machines, listed);
+    drop(machines);
+    told
+}
+
+fn run(alloc: Global, given: &str, listed: &str) -> Result<String, Fault> {
+    let bundle = bundle(alloc, given)?;
+    run_bundle(alloc, &bundle, listed)
 }
 
 /// The report of a case, or why it was not run.

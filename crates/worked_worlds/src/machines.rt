@@ -1,6 +1,6 @@
 //! State machines.
 
-use crate::carry::{after, care};
+use crate::carry::{after, onward};
 use crate::fault::Fault;
 use crate::flows::{item_template, map_shape, pass_shape, path, path_shape, shape};
 use crate::rules::top_rules;
@@ -14,8 +14,7 @@ use unum_json::{Fields, Items, Json, Text, copy, copy_text};
 fn task(alloc: Global, fields: &Fields<Json>) -> Result<State, Fault> {
     let shape = shape(alloc, fields)?;
     let resource = text_at(alloc, fields, b"Resource")?;
-    let after = after(alloc, fields)?;
-    let care = care(alloc, fields)?;
+    let (after, care) = onward(alloc, fields)?;
     Ok(State::Task {
         shape,
         resource,
@@ -68,8 +67,7 @@ fn parallel(alloc: Global, depth: u32, fields: &Fields<Json>) -> Result<State, F
         branches.push(block(alloc, depth - 1, item)?)?;
     }
     let shape = shape(alloc, fields)?;
-    let after = after(alloc, fields)?;
-    let care = care(alloc, fields)?;
+    let (after, care) = onward(alloc, fields)?;
     Ok(State::Parallel {
         shape,
         branches,
@@ -104,13 +102,12 @@ fn map(alloc: Global, depth: u32, fields: &Fields<Json>) -> Result<State, Fault>
     if depth == 0 {
         return Err(Fault::NotRead);
     }
-    let body = Boxed::new(alloc, block(alloc, depth - 1, body_of(fields)?)?)?;
-    let shape = map_shape(alloc, fields)?;
+    let limit = limit(fields)?;
     let items = items_path(alloc, fields)?;
     let selector = item_template(alloc, fields)?;
-    let after = after(alloc, fields)?;
-    let care = care(alloc, fields)?;
-    let limit = limit(fields)?;
+    let shape = map_shape(alloc, fields)?;
+    let (after, care) = onward(alloc, fields)?;
+    let body = Boxed::new(alloc, block(alloc, depth - 1, body_of(fields)?)?)?;
     Ok(State::Map {
         shape,
         items,
@@ -127,16 +124,16 @@ fn state(alloc: Global, depth: u32, fields: &Fields<Json>) -> Result<State, Faul
     if depth == 0 {
         return Err(Fault::NotRead);
     }
-    match text(needed(fields, b"Type")?)?.as_bytes() {
-        b"Task" => task(alloc, fields),
-        b"Pass" => pass(alloc, fields),
-        b"Choice" => choice(alloc, fields),
-        b"Succeed" => Ok(State::Succeed {
+    match text(needed(fields, b"Type")?)?.as_str() {
+        "Task" => task(alloc, fields),
+        "Pass" => pass(alloc, fields),
+        "Choice" => choice(alloc, fields),
+        "Succeed" => Ok(State::Succeed {
             shape: path_shape(alloc, fields)?,
         }),
-        b"Fail" => fail(alloc, fields),
-        b"Parallel" => parallel(alloc, depth - 1, fields),
-        b"Map" => map(alloc, depth - 1, fields),
+        "Fail" => fail(alloc, fields),
+        "Parallel" => parallel(alloc, depth - 1, fields),
+        "Map" => map(alloc, depth - 1, fields),
         _ => Err(Fault::NotRead),
     }
 }

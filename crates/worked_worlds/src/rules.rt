@@ -12,23 +12,29 @@ use std::alloc::Global;
 use unum_json::{Fields, Items, Json, Text, copy};
 
 /// How a comparison's name goes on after its kind.
-fn relation(name: &[u8]) -> Option<(Rel, bool)> {
-    match name {
-        b"Equals" => Some((Rel::Equal, false)),
-        b"EqualsPath" => Some((Rel::Equal, true)),
-        b"LessThan" => Some((Rel::Less, false)),
-        b"LessThanPath" => Some((Rel::Less, true)),
-        b"LessThanEquals" => Some((Rel::LessEqual, false)),
-        b"LessThanEqualsPath" => Some((Rel::LessEqual, true)),
-        b"GreaterThan" => Some((Rel::Greater, false)),
-        b"GreaterThanPath" => Some((Rel::Greater, true)),
-        b"GreaterThanEquals" => Some((Rel::GreaterEqual, false)),
-        b"GreaterThanEqualsPath" => Some((Rel::GreaterEqual, true)),
-        _ => None,
+const RELATIONS: [(&str, Rel); 5] = [
+    ("Equals", Rel::Equal),
+    ("LessThan", Rel::Less),
+    ("LessThanEquals", Rel::LessEqual),
+    ("GreaterThan", Rel::Greater),
+    ("GreaterThanEquals", Rel::GreaterEqual),
+];
+
+/// The relation of that name, and whether the operand is a path.
+fn relation(name: &str) -> Option<(Rel, bool)> {
+    let (name, by_path) = match name.strip_suffix("Path") {
+        Some(rest) => (rest, true),
+        None => (name, false),
+    };
+    for (known, rel) in RELATIONS {
+        if known == name {
+            return Some((rel, by_path));
+        }
     }
+    None
 }
 
-fn comparison(alloc: Global, kind: OpKind, name: &[u8], value: &Json) -> Result<Op, Fault> {
+fn comparison(alloc: Global, kind: OpKind, name: &str, value: &Json) -> Result<Op, Fault> {
     let Some((rel, by_path)) = relation(name) else {
         return Err(Fault::NotRead);
     };
@@ -44,14 +50,14 @@ fn comparison(alloc: Global, kind: OpKind, name: &[u8], value: &Json) -> Result<
 }
 
 /// The comparison's kind, and how its name goes on.
-fn kind_of(name: &[u8]) -> Option<(OpKind, &[u8])> {
-    if let Some(rest) = name.strip_prefix(b"String") {
+fn kind_of(name: &str) -> Option<(OpKind, &str)> {
+    if let Some(rest) = name.strip_prefix("String") {
         return Some((OpKind::Text, rest));
     }
-    if let Some(rest) = name.strip_prefix(b"Numeric") {
+    if let Some(rest) = name.strip_prefix("Numeric") {
         return Some((OpKind::Number, rest));
     }
-    if let Some(rest) = name.strip_prefix(b"Boolean") {
+    if let Some(rest) = name.strip_prefix("Boolean") {
         return Some((OpKind::Truth, rest));
     }
     None
@@ -65,14 +71,14 @@ fn pattern(alloc: Global, value: &Json) -> Result<Op, Fault> {
     }
 }
 
-fn operator(alloc: Global, name: &[u8], value: &Json) -> Result<Op, Fault> {
+fn operator(alloc: Global, name: &str, value: &Json) -> Result<Op, Fault> {
     match name {
-        b"StringMatches" => pattern(alloc, value),
-        b"IsNull" => Ok(Op::IsNull(truth(value)?)),
-        b"IsPresent" => Ok(Op::IsPresent(truth(value)?)),
-        b"IsNumeric" => Ok(Op::IsNumeric(truth(value)?)),
-        b"IsString" => Ok(Op::IsString(truth(value)?)),
-        b"IsBoolean" => Ok(Op::IsBoolean(truth(value)?)),
+        "StringMatches" => pattern(alloc, value),
+        "IsNull" => Ok(Op::IsNull(truth(value)?)),
+        "IsPresent" => Ok(Op::IsPresent(truth(value)?)),
+        "IsNumeric" => Ok(Op::IsNumeric(truth(value)?)),
+        "IsString" => Ok(Op::IsString(truth(value)?)),
+        "IsBoolean" => Ok(Op::IsBoolean(truth(value)?)),
         _ => match kind_of(name) {
             Some((kind, rest)) => comparison(alloc, kind, rest, value),
             None => Err(Fault::NotRead),
@@ -80,14 +86,14 @@ fn operator(alloc: Global, name: &[u8], value: &Json) -> Result<Op, Fault> {
     }
 }
 
-fn is_beside(name: &[u8]) -> bool {
-    matches!(name, b"Variable" | b"Next" | b"Comment")
+fn is_beside(name: &str) -> bool {
+    name == "Variable" || name == "Next" || name == "Comment"
 }
 
 /// The member that says what is tested.
 fn head(fields: &Fields<Json>) -> Result<&(Text, Json), Fault> {
     for field in fields.as_slice() {
-        if !is_beside(field.0.as_bytes()) {
+        if !is_beside(field.0.as_str()) {
             return Ok(field);
         }
     }
@@ -115,13 +121,13 @@ fn rule(alloc: Global, depth: u32, value: &Json) -> Result<Rule, Fault> {
     }
     let fields = members(value)?;
     let (name, asked) = head(fields)?;
-    match name.as_bytes() {
-        b"And" => Ok(Rule::And(several(alloc, depth - 1, asked)?)),
-        b"Or" => Ok(Rule::Or(several(alloc, depth - 1, asked)?)),
-        b"Not" => Ok(Rule::Not(Boxed::new(alloc, rule(alloc, depth - 1, asked)?)?)),
+    match name.as_str() {
+        "And" => Ok(Rule::And(several(alloc, depth - 1, asked)?)),
+        "Or" => Ok(Rule::Or(several(alloc, depth - 1, asked)?)),
+        "Not" => Ok(Rule::Not(Boxed::new(alloc, rule(alloc, depth - 1, asked)?)?)),
         _ => {
             let variable = path(alloc, needed(fields, b"Variable")?)?;
-            let op = operator(alloc, name.as_bytes(), asked)?;
+            let op = operator(alloc, name.as_str(), asked)?;
             Ok(Rule::Test { variable, op })
         }
     }
