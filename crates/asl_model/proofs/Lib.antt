@@ -18,12 +18,15 @@ pub mod WorldUse
 pub mod SiteLaw
 pub mod FanLaw
 pub mod Found
+pub mod ValidWords
 pub mod ValidLaw
+pub mod BreaksLaw
 pub mod NumberLaw
 pub mod NameLaw
 pub mod SizeLaw
 pub mod SequentialLaw
 pub mod Computed
+pub mod Bounds
 pub mod StopLaw
 pub mod EndedLaw
 pub mod ReachLaw

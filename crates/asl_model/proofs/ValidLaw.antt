@@ -1,7 +1,6 @@
 -- What holds of a machine that breaks no rule.
-use Rattle.std.proofs.Common.{◌≡◌, ℕ, zero, suc, ◌+◌, ◌<◌, ◌≤◌, Bool, true, false, not, ◌&&◌, ◌||◌, ◌==◌, nat_lt, map, filter, flat_map, is_some, length, slice_get, List, [], ◌∷◌, ◌++◌, Option, Some, None, refl, sym, ap, ◌∙◌, subst, inl, inr, arith, if◌then◌else◌, ◌⊎◌, ◌↔◌}
+use Rattle.std.proofs.Common.{◌≡◌, ℕ, zero, suc, ◌+◌, ◌<◌, ◌≤◌, Bool, true, false, not, ◌&&◌, ◌==◌, nat_lt, map, filter, flat_map, is_some, length, slice_get, List, [], ◌∷◌, ◌++◌, Option, Some, None, refl, sym, ap, ◌∙◌, subst, inl, inr, arith, if◌then◌else◌, ◌↔◌}
 use Rattle.std.proofs.lemmas.Bool.{ltb-false, lt-ltb}
-use Rattle.std.specs.List.{list_any}
 use Rattle.std.specs.Bool.{beq}
 use Rattle.std.specs.Str.{chars}
 use Rattle.asl_model.specs.declared.validity.VRule.{VRule}
@@ -13,6 +12,7 @@ use Rattle.asl_model.specs.Laws.{In}
 use Rattle.asl_model.specs.Valid.{Broken, has_state, labels, is_lost, stands_in, is_misnamed, lacks_after, lacks_choices, has_bad_branches, is_too_deep, has_bad_care, has_bad_limit, names_rule, broken_if, broken_in, broken_at, shared_names, HasState, EachState, HasOneAfter, HasParts, NothingBroken}
 use Rattle.asl_model.proofs.Found.{has_row, has_test, test_has, row_of}
 use Rattle.asl_model.proofs.Lists.{In-left, In-right}
+use Rattle.asl_model.proofs.ValidWords.{or_false, or_either, or_right, any_false, zero_false, leads_in, careful}
 
 append_none : {X : Type 0} (xs ys : List X) → xs ++ ys ≡ [] → (xs ≡ []) × (ys ≡ [])
 append_none [] ys e = (refl, e)
@@ -34,16 +34,6 @@ filter_none f t (y ∷ ys) e x i =
     let p = filtered_by f t y (filter t ys) (t y) refl e in
     elim i [ inl q ↦ ap t q ∙ p.0 | inr k ↦ filter_none f t ys p.1 x k ]
 
-or_false : (a b : Bool) → a || b ≡ false → (a ≡ false) × (b ≡ false)
-or_false true b e = absurd (cc)
-or_false false b e = (refl, e)
-
-any_false : {X : Type 0} (t : X → Bool) (xs : List X) → list_any t xs ≡ false → (x : X) → In x xs → t x ≡ false
-any_false t [] e x i = absurd i
-any_false t (y ∷ ys) e x i =
-    let p = or_false (t y) (list_any t ys) e in
-    elim i [ inl q ↦ ap t q ∙ p.0 | inr k ↦ any_false t ys p.1 x k ]
-
 some_state : (b : Block) (name : Text) (m : Option State) → state_of b name ≡ m → not (is_some m) ≡ false → HasState b name
 some_state b name None e h = absurd (cc)
 some_state b name (Some s) e h = (s, e)
@@ -63,14 +53,6 @@ if_none false rule name e = refl
 block_in : (n : Nested) (ns : List Nested) → In n ns → In n.block (map (λ (n : Nested). n.block) ns)
 block_in n [] i = absurd i
 block_in n (m ∷ ms) i = elim i [ inl e ↦ inl (ap (λ (k : Nested). k.block) e) | inr t ↦ inr (block_in n ms t) ]
-
-or_right : (a : Bool) → a || true ≡ true
-or_right true = refl
-or_right false = refl
-
-or_either : (a b : Bool) → a || b ≡ true → (a ≡ true) ⊎ (b ≡ true)
-or_either true b e = inl refl
-or_either false b e = inr e
 
 later_has : (name : Text) (bs : List Block) (j : ℕ) (c : Block) → slice_get bs j ≡ Some c → has_state c name ≡ true → stands_in name bs ≡ true
 later_has name [] j c e h = absurd (cc)
@@ -122,10 +104,6 @@ name_row : (name : Text) (rs : List Row) → In name (map (λ (r : Row). r.0) rs
 name_row name [] i = absurd i
 name_row name (r ∷ rs) i = elim i [ inl e ↦ (r, inl refl, sym e) | inr t ↦ let (q, j, n) = name_row name rs t in (q, inr j, n) ]
 
-zero_false : (n : ℕ) → (n == 0) ≡ false → 0 < n
-zero_false zero e = absurd (cc)
-zero_false (suc n) e = omega arith
-
 decided_by : (s t : Bool) → beq s t ≡ false → (s ≡ true) ↔ (t ≡ false)
 decided_by true true e = absurd (cc)
 decided_by true false e = (λ h. refl, λ h. refl)
@@ -154,7 +132,7 @@ has_parts (Map shape items selector b after care limit) e f = tt
 
 -- ---- how deep blocks nest
 
-abbrev NoneTooDeep : List Nested → Type 0
+abbrev pub NoneTooDeep : List Nested → Type 0
 NoneTooDeep ns = (n : Nested) → In n ns → (r : Row) → In r (rows n.block) → is_too_deep n.depth r.1 ≡ false
 
 room_by : (t : Bool) (d : ℕ) → t ≡ true → t && nat_lt 8 (d + 1) ≡ false → suc d ≤ 8
@@ -251,7 +229,7 @@ nothing_broken root e =
     let e11 = all.e11 in
     record {
       starts = λ b i. has_it b (start_of b) (if_none (not (has_state b (start_of b))) V1 (start_of b) (flat_none (λ b. broken_if (not (has_state b (start_of b))) V1 (start_of b)) (blocks root) e1 b i));
-      goes = λ n i r j name k. has_it n.block name (any_false (λ name. not (has_state n.block name)) (labels (head_of r.1)) (each_state V2 (λ n s. is_lost n.block s) root e2 n i r j) name k);
+      goes = λ n i r j name k. has_it n.block name (any_false (λ name. not (has_state n.block name)) (labels (head_of r.1)) (each_state V2 (λ n s. is_lost n.block s) root e2 n i r j) name (leads_in r.1 name k));
       apart = λ i j b c l f g name k h. let (r, x, n) = name_row name (rows b) k in no_shared [] (blocks root) (λ name h k. absurd (cc)) e3 i j b c l f g r x (subst (HasState c) (sym n) h);
       named = λ n i r j.
           let t : is_misnamed r.0 ≡ false = filter_none (λ (q : Row). names_rule V4 q.0) (λ (q : Row). is_misnamed q.0) (rows n.block) (flat_none (λ b. broken_in V4 (λ r. is_misnamed r.0) b) (blocks root) e4 n.block (block_in n (nested root) i)) r j in
@@ -261,6 +239,6 @@ nothing_broken root e =
       parts = λ n i r j. has_parts r.1 (each_state V6 (λ n s. lacks_choices s) root e6 n i r j) (each_state V7 (λ n s. has_bad_branches s) root e7 n i r j);
       shallow = let l : 1 + depth root ≤ 9 = shallow_at 1 root (each_state V8 (λ n s. is_too_deep n.depth s) root e8) (omega arith) in omega arith;
       few = ltb-false 1000 (length (nodes root)) (if_none (nat_lt 1000 (length (nodes root))) V9 (start_of root) e9);
-      careful = each_state V10 (λ n s. has_bad_care s) root e10;
+      careful = λ n i r j. careful r.1 (each_state V10 (λ n s. has_bad_care s) root e10 n i r j);
       limited = λ n i r j. ltb-false 1000000 (limit_of r.1) (each_state V11 (λ n s. has_bad_limit s) root e11 n i r j);
     }

@@ -14,5 +14,6 @@ pub mod Numbers
 pub mod Sequential
 pub mod Stops
 pub mod Examples
+pub mod Limits
 pub mod Laws
 pub mod Lawful

@@ -1,7 +1,7 @@
 -- The rules of validity, and the list of all that a machine breaks.
 -- Amazon States Language, "Structure of a State Machine", "States", "Transitions", "Choice State", "Parallel State",
 -- "Map State" and "Errors". The bounds are this project's own.
-use Rattle.std.specs.Prelude.{ℕ, ◌+◌, Bool, true, false, not, ◌&&◌, ◌||◌, ◌==◌, nat_lt, ◌≡◌, ◌↔◌, ◌<◌, ◌≤◌, slice_get, map, filter, flat_map, is_some, if◌then◌else◌, length, List, [], ◌∷◌, ◌++◌, Option, Some, None}
+use Rattle.std.specs.Prelude.{ℕ, suc, ◌+◌, Bool, true, false, not, ◌&&◌, ◌||◌, ◌==◌, nat_lt, ◌≡◌, ◌↔◌, ◌⊎◌, ◌<◌, ◌≤◌, slice_get, map, filter, flat_map, is_some, if◌then◌else◌, length, List, [], ◌∷◌, ◌++◌, Option, Some, None}
 use Rattle.std.specs.Bool.{beq}
 use Rattle.std.specs.List.{list_any}
 use Rattle.std.specs.Str.{chars, bytes_eq}
@@ -10,7 +10,7 @@ use Rattle.asl_model.specs.declared.validity.VRule.TheVariants.{V1, V2, V3, V4, 
 use Rattle.asl_model.specs.declared.validity.BrokenRule.{BrokenRule}
 use Rattle.asl_model.specs.Data.{Text, all_errors}
 use Rattle.asl_model.specs.Head.{Head, HTask, HPass, HChoice, HSucceed, HFail, HParallel, HMap, CareOf, CatcherOf, Retrier}
-use Rattle.asl_model.specs.Machine.{Block, State, Task, Pass, Choice, Parallel, Map, After, start_of, state_of, blocks_in, head_of, care_of, limit_of, depth}
+use Rattle.asl_model.specs.Machine.{Block, State, Task, Pass, Choice, Parallel, Map, After, TopRule, Care, Catcher, start_of, state_of, blocks_in, head_of, care_of, limit_of, depth}
 use Rattle.asl_model.specs.Laws.{In}
 use Rattle.asl_model.specs.Blocks.{Nested, Row, nested, blocks, rows, nodes}
 
@@ -133,7 +133,7 @@ broken root =
     ++ broken_at V10 (λ n s. has_bad_care s) root
     ++ broken_at V11 (λ n s. has_bad_limit s) root
 
--- what holds of a machine that breaks no rule
+-- ---- what a valid machine is, in words of its own
 
 abbrev pub HasState : Block → Text → Type 0
 HasState b name = (s : State) × (state_of b name ≡ Some s)
@@ -141,6 +141,19 @@ HasState b name = (s : State) × (state_of b name ≡ Some s)
 -- a fact of each state, with the depth of its block
 abbrev pub EachState : Block → (Nested → Row → Type 0) → Type 0
 EachState root P = (n : Nested) → In n (nested root) → (r : Row) → In r (rows n.block) → P n r
+
+-- a catcher leads to the state of that name
+abbrev pub CatchesTo : Care → Text → Type 0
+CatchesTo care name = (c : Catcher) × In c care.catch × (c.next ≡ name)
+
+-- a state leads to the state of that name: by its Next, a rule's Next, its Default or a catcher's Next
+abbrev pub LeadsTo : State → Text → Type 0
+LeadsTo (Task shape resource after care) name = (after.next ≡ Some name) ⊎ CatchesTo care name
+LeadsTo (Pass shape result after) name = after.next ≡ Some name
+LeadsTo (Choice shape rules default) name = ((r : TopRule) × In r rules × (r.next ≡ name)) ⊎ (default ≡ Some name)
+LeadsTo (Parallel shape bs after care) name = (after.next ≡ Some name) ⊎ CatchesTo care name
+LeadsTo (Map shape items selector b after care limit) name = (after.next ≡ Some name) ⊎ CatchesTo care name
+LeadsTo _ name = ⊥
 
 -- exactly one of Next and End
 abbrev pub IsDecided : After → Type 0
@@ -159,17 +172,36 @@ HasParts (Choice shape rules default) = 0 < length rules
 HasParts (Parallel shape bs after care) = (0 < length (blocks_in bs)) × (length (blocks_in bs) ≤ 100)
 HasParts _ = Unit {0}
 
+-- the error names of a state's retriers, or of its catchers: each has one, and States.ALL stands alone and in the last
+pub record AreNamed (lists : List (List Text)) : Type 0 where
+  pub some_name : (names : List Text) → In names lists → 0 < length names
+  pub alone : (names : List Text) → In names lists → In all_errors names → names ≡ all_errors ∷ []
+  pub last : (i : ℕ) (names : List Text) → slice_get lists i ≡ Some names → In all_errors names → suc i ≡ length lists
+
+-- what a state's retriers and catchers are
+pub record IsCareful (care : Care) : Type 0 where
+  pub retriers : AreNamed (map (λ (r : Retrier). r.errors) care.retry)
+  pub catchers : AreNamed (map (λ (c : Catcher). c.errors) care.catch)
+  pub attempts : (r : Retrier) → In r care.retry → r.most ≤ 99999999
+  pub few_retriers : length care.retry ≤ 16
+  pub few_catchers : length care.catch ≤ 16
+
 pub record IsValid (root : Block) : Type 0 where
   pub starts : (b : Block) → In b (blocks root) → HasState b (start_of b)
-  pub goes : EachState root (λ n r. (name : Text) → In name (labels (head_of r.1)) → HasState n.block name)
+  pub goes : EachState root (λ n r. (name : Text) → LeadsTo r.1 name → HasState n.block name)
   pub apart : (i j : ℕ) (b c : Block) → i < j → slice_get (blocks root) i ≡ Some b → slice_get (blocks root) j ≡ Some c → (name : Text) → In name (map (λ (r : Row). r.0) (rows b)) → HasState c name → ⊥
   pub named : EachState root (λ n r. (0 < length (chars r.0)) × (length (chars r.0) ≤ 80))
   pub decided : EachState root (λ n r. HasOneAfter r.1)
   pub parts : EachState root (λ n r. HasParts r.1)
   pub shallow : depth root ≤ 8
   pub few : length (nodes root) ≤ 1000
-  pub careful : EachState root (λ n r. has_bad_care r.1 ≡ false)
+  pub careful : EachState root (λ n r. IsCareful (care_of r.1))
   pub limited : EachState root (λ n r. limit_of r.1 ≤ 1000000)
 
+-- what breaks no rule is valid
 abbrev pub NothingBroken : Type 0
 NothingBroken = (root : Block) → broken root ≡ [] → IsValid root
+
+-- what is valid breaks no rule
+abbrev pub BreaksNothing : Type 0
+BreaksNothing = (root : Block) → IsValid root → broken root ≡ []

@@ -4,7 +4,7 @@
 ghost use Rattle.asl_model.specs.Sequential.{Bounded, SequentialEnds};
 ghost use Rattle.asl_model.specs.Stops.{AfterMeans, StretchMeans, UsedFits};
 ghost use Rattle.asl_model.specs.Step.{standard};
-ghost use Rattle.asl_model.specs.Valid.{NothingBroken};
+ghost use Rattle.asl_model.specs.Valid.{BreaksNothing, NothingBroken};
 ghost use Rattle.asl_model.specs.Numbers.{EnterNumber, NumberMeans, EachHasNumber, OneNumber, StateFound, VisitHasNumber, NamesInRange};
 ghost use Rattle.asl_model.specs.Lawful.{Lawful, InputAt, OneBody};
 ghost use Rattle.asl_model.specs.Laws.{Growth, Standing, Order, Distinct, OneVisit, SameVisit, CentralGrowth, Next, Waiting, BranchEnds, JoinExactly, Ranges, Adding, Answering, OpenPlaces, EndKept, FanKept, JoinReady};
@@ -42,9 +42,10 @@ pub fn lawful()
     ensures one_body { OneBody }
 {}
 
-/// What holds of a machine that breaks no rule of validity.
+/// A machine breaks no rule of validity exactly where it is valid.
 pub fn valid()
-    ensures { NothingBroken }
+    ensures nothing_broken { NothingBroken }
+    ensures breaks_nothing { BreaksNothing }
 {}
 
 /// What the numbers of a machine's functions stand for, and that the names of a run's visits are in range.

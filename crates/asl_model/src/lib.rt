@@ -12,5 +12,5 @@ pub use counting::count_states;
 pub use laws::{central_runs, lawful, numbers, runs, sequential, stops, valid};
 pub use machine::{After, Block, Care, Catcher, Machine, Retrier, State, TopRule};
 pub use shapes::{ItemTemplate, MapShape, PassShape, PathShape};
-pub use shown::{examples, failures};
+pub use shown::{examples, failures, limits_of_validity};
 pub use validity::{BrokenRule, VRule};
