@@ -1,0 +1,4 @@
+pub mod Levels
+pub mod Homes
+pub mod Rules
+pub mod Checked
