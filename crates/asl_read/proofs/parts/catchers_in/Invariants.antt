@@ -1,0 +1,7 @@
+use Rattle.std.proofs.Common.{◌≡◌, ◌++◌, map, drop, codes}
+use Rattle.serde_json.specs.View.{view}
+use Rattle.asl_read.specs.Parts.{list_in, catcher_of}
+use Rattle.asl_read.proofs.parts.catchers_in.Given as goal
+
+abbrev pub invariant-loop-item : goal.invariant-loop-item
+invariant-loop-item l = map catcher_of (list_in (codes "Catch") (view l.value)) ≡ l.found ++ map catcher_of (map view (drop l.item-index l.item-items))
