@@ -1,14 +1,14 @@
 -- A scope is gone through state by state.
-use Rattle.std.proofs.Common.{◌≡◌, ℕ, suc, ◌+◌, ◌-◌, ◌<◌, ◌≤◌, ◌⊎◌, inl, inr, min, List, Option, Some, refl, sym, ap, subst, ◌∙◌, add-one, arith}
+use Rattle.std.proofs.Common.{◌≡◌, ℕ, suc, ◌+◌, ◌-◌, ◌<◌, ◌≤◌, ◌⊎◌, inl, inr, min, Option, Some, refl, sym, ap, subst, ◌∙◌, add-one, arith}
 use Rattle.std.proofs.lemmas.Bool.{cases_lt}
 use Rattle.asl_model.specs.Data.{Text, Json, failure, hop_limit_error}
 use Rattle.asl_model.specs.Machine as m
-use Rattle.asl_model.specs.Central.{hop_limit}
-use Rattle.asl_model.specs.Step.{Fans, standard}
-use Rattle.asl_model.specs.Stretch.{Over, first_stop, stretch}
+use Rattle.asl_model.specs.Central.{hop_limit, used_by}
+use Rattle.asl_model.specs.Step.{Begun, On, Calls, Fans, standard}
+use Rattle.asl_model.specs.Stretch.{Over, stop_at, stop_in, first_stop, stretch}
 use Rattle.asl_model.proofs.WaysLaw.{one_each}
 use Rattle.plain_steps.specs.declared.stop.Step.{Step}
-use Rattle.plain_steps.specs.Stopping.{HasBranches, Going, step_go, StepIs}
+use Rattle.plain_steps.specs.Stopping.{FansOut, Going, step_go, StepIs}
 
 limit_is : hop_limit ≡ 2000
 unfolding hop_limit
@@ -37,7 +37,21 @@ later b name hop n v again e =
     ∙ by_room b name hop n v again e (cases_lt hop 2000)
     ∙ ap (λ z. first_stop standard b (z - suc hop) name (suc hop) v again) (sym limit_is)
 
+-- what a state that is entered does first leads to where its scope stops
+pub entered : (b : m.Block) (name : Text) (hop : ℕ) (raw : Json) (again : Option m.Used) (st : m.State) (used : m.Used) (begun : Begun) (s : Step) → Some st ≡ m.state_of b name → used ≡ used_by standard st again → begun ≡ standard.begin name st raw
+    → ((go : Going) → Some st ≡ m.state_of b name → stop_at name st hop raw used begun go ≡ step_go b s go) → StepIs b s name hop raw again
+entered b name hop raw again st used begun s found u e step go =
+    ap (λ o. stop_in standard name o hop raw again go) (sym found)
+    ∙ ap (λ z. stop_at name st hop raw (used_by standard st again) z go) (sym e)
+    ∙ ap (λ z. stop_at name st hop raw z begun go) (sym u)
+    ∙ step go found
+
 -- a fan has one input for each branch
-pub has_branches : (name : Text) (o : Option m.State) (st : m.State) (raw : Json) (inputs : List Json) → Some st ≡ o → Fans inputs ≡ standard.begin name st raw → HasBranches o inputs
+fans_out : (name : Text) (st : m.State) (raw : Json) (begun : Begun) → begun ≡ standard.begin name st raw → FansOut (Some st) begun
 unfolding standard
-has_branches name o st raw inputs found e = subst (λ z. HasBranches z inputs) found (one_each name st raw inputs (sym e))
+fans_out name st raw (On o) e = tt
+fans_out name st raw (Calls resource x) e = tt
+fans_out name st raw (Fans inputs) e = one_each name st raw inputs (sym e)
+
+pub fans_found : (name : Text) (o : Option m.State) (st : m.State) (raw : Json) (begun : Begun) → Some st ≡ o → begun ≡ standard.begin name st raw → FansOut o begun
+fans_found name o st raw begun found e = subst (λ z. FansOut z begun) found (fans_out name st raw begun e)

@@ -40,6 +40,10 @@ abbrev pub chooses : Shape → List TopRule → (default : Option Text) → Json
 chooses shape rules default raw =
     and_then (prepared shape raw) (λ x. and_then (next_state rules default x) (λ next. and_then (output shape x) (λ v. Ok (Goes next v None))))
 
+-- where a Choice leads with its prepared data
+abbrev pub chooses_with : Shape → List TopRule → (default : Option Text) → (prepared : Json) → Result Onward Text
+chooses_with shape rules default x = and_then (next_state rules default x) (λ next. and_then (output shape x) (λ v. Ok (Goes next v None)))
+
 abbrev pub succeeds : Shape → Json → Result Onward Text
 succeeds shape raw = and_then (prepared shape raw) (λ x. and_then (output shape x) (λ v. Ok (Ends (Done v))))
 

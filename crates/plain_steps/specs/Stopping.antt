@@ -4,7 +4,7 @@ use Rattle.asl_model.specs.Data.{Text, Json, Null, Outcome}
 use Rattle.asl_model.specs.Machine as m
 use Rattle.asl_model.specs.Central as c
 use Rattle.asl_model.specs.Stretch as s
-use Rattle.asl_model.specs.Step.{standard}
+use Rattle.asl_model.specs.Step.{Begun, On, Calls, Fans, standard}
 use Rattle.plain_steps.specs.declared.stop.Visited.{Visited}
 use Rattle.plain_steps.specs.declared.stop.Visited.TheVariants as visited
 use Rattle.plain_steps.specs.declared.stop.Stop.{Stop}
@@ -31,6 +31,12 @@ stop_of b (stop.Over o) = s.Over o
 abbrev pub HasBranches : Option m.State → List Json → Type 0
 HasBranches None inputs = ⊥
 HasBranches (Some st) inputs = length (m.branches_of st (length inputs)) ≡ length inputs
+
+-- where a state fans out, it has one input for each of its branches
+abbrev pub FansOut : Option m.State → Begun → Type 0
+FansOut found (On o) = Unit {0}
+FansOut found (Calls resource x) = Unit {0}
+FansOut found (Fans inputs) = HasBranches found inputs
 
 -- a fan has one input for each of its state's branches
 abbrev pub HasInputs : m.Block → Stop → Type 0

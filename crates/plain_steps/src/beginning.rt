@@ -4,7 +4,7 @@ ghost use Rattle.asl_model.specs.Head.{result_or};
 ghost use Rattle.asl_model.specs.Step.{Onward as OnwardSeen, Begun as BegunSeen, standard};
 ghost use Rattle.asl_model.specs.Tree.{care_of, state_tree};
 ghost use Rattle.plain_steps.specs.Given.{Gives};
-ghost use Rattle.plain_steps.specs.Kinds.{on_or_failed, begun_or_caught, passes, next_state, chooses, succeeds, calls, parallel_fans, map_fans};
+ghost use Rattle.plain_steps.specs.Kinds.{on_or_failed, begun_or_caught, passes, next_state, chooses_with, chooses, succeeds, calls, parallel_fans, map_fans};
 ghost use Rattle.plain_steps.specs.Views.{onward_of, begun_of};
 
 use crate::care::catch;
@@ -81,8 +81,28 @@ fn pass_on<'m>(
     ensures { Gives onward_of result (passes shape.now constant.now after.now.next raw.now) }
 {
     let prepared = prepare(alloc, shape, raw)?;
-    let value = hand_on(alloc, shape, raw, result_or(constant, &prepared))?;
-    Ok(leaves(after, value))
+    let value = hand_on(alloc, shape, raw, result_or(constant, &prepared));
+    drop(prepared);
+    Ok(leaves(after, value?))
+}
+
+/// Where a Choice leads with its prepared data.
+fn choose_with<'m>(
+    alloc: Global,
+    shape: &Shape,
+    rules: &'m Items<TopRule>,
+    default: &'m Option<Text>,
+    prepared: &Json,
+) -> Result<Onward<'m>, FlowError>
+    ensures { Gives onward_of result (chooses_with shape.now rules.now default.now prepared.now) }
+{
+    let next = choose_next(rules, default, prepared)?;
+    let data = put_out(alloc, shape, prepared)?;
+    Ok(Onward::Goes {
+        next,
+        data,
+        again: None,
+    })
 }
 
 /// What a Choice does.
@@ -98,13 +118,9 @@ fn choose_on<'m>(
     ensures { Gives onward_of result (chooses shape.now rules.now default.now raw.now) }
 {
     let prepared = prepare(alloc, shape, raw)?;
-    let next = choose_next(rules, default, &prepared)?;
-    let data = put_out(alloc, shape, &prepared)?;
-    Ok(Onward::Goes {
-        next,
-        data,
-        again: None,
-    })
+    let made = choose_with(alloc, shape, rules, default, &prepared);
+    drop(prepared);
+    made
 }
 
 /// What a Succeed does.
@@ -114,8 +130,9 @@ fn succeed<'m>(alloc: Global, shape: &Shape, raw: &Json) -> Result<Onward<'m>, F
     ensures { Gives onward_of result (succeeds shape.now raw.now) }
 {
     let prepared = prepare(alloc, shape, raw)?;
-    let value = put_out(alloc, shape, &prepared)?;
-    Ok(Onward::Ends(Outcome::Done(value)))
+    let value = put_out(alloc, shape, &prepared);
+    drop(prepared);
+    Ok(Onward::Ends(Outcome::Done(value?)))
 }
 
 /// What a Task does first.
@@ -145,8 +162,9 @@ fn fan_parallel<'m>(
     ensures { Gives begun_of result (parallel_fans shape.now count raw.now) }
 {
     let prepared = prepare(alloc, shape, raw)?;
-    let inputs = parallel_inputs(alloc, count, &prepared)?;
-    Ok(Begun::Fans(inputs))
+    let inputs = parallel_inputs(alloc, count, &prepared);
+    drop(prepared);
+    Ok(Begun::Fans(inputs?))
 }
 
 /// What a Map does first.
@@ -162,8 +180,9 @@ fn fan_map<'m>(
     ensures { Gives begun_of result (map_fans shape.now items.now selector.now raw.now) }
 {
     let prepared = prepare(alloc, shape, raw)?;
-    let inputs = map_inputs(alloc, items, selector, &prepared)?;
-    Ok(Begun::Fans(inputs))
+    let inputs = map_inputs(alloc, items, selector, &prepared);
+    drop(prepared);
+    Ok(Begun::Fans(inputs?))
 }
 
 /// What the state of this name does first with its raw data.

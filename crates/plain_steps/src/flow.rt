@@ -1,6 +1,9 @@
-ghost use Rattle.std.specs.Prelude.{◌≡◌, IfOk, Result};
+ghost use Rattle.std.specs.Prelude.{◌≡◌, IfOk, OnOk, Option, Result};
+ghost use Rattle.unum_json.specs.Keys.{with_key};
+ghost use Rattle.asl_paths.specs.Lookup.{Puts};
+ghost use Rattle.asl_shape.specs.declared.trouble.ShapeError.TheVariants as shape_error;
 ghost use Rattle.asl_model.specs.Data.{prepared, handed_on, output, put_error, error_output, named};
-ghost use Rattle.asl_shape.specs.Flow.{small};
+ghost use Rattle.asl_shape.specs.Flow.{small, small_or};
 ghost use Rattle.plain_steps.specs.Given.{Gives};
 
 use crate::trouble::{FlowError, StateError, named};
@@ -55,6 +58,15 @@ pub fn put_out(alloc: Global, shape: &Shape, value: &Json) -> Result<Json, FlowE
     }
 }
 
+/// Sets a field to a text.
+fn set_text(alloc: Global, fields: &mut Fields<Json>, key: &str, text: &str) -> Result<(), NoMemory>
+    ensures { OnOk result (fields.new ≡ with_key key.now (Json.Str text.now) fields.old) }
+{
+    let key = Text::from_str(alloc, key)?;
+    let text = Text::from_str(alloc, text)?;
+    fields.insert(key, Json::Str(text))
+}
+
 /// The Error Output of an error and its cause.
 ///
 /// Source: Amazon States Language, "Fallback States".
@@ -62,11 +74,26 @@ fn error_output(alloc: Global, error: &str, cause: &str) -> Result<Json, NoMemor
     ensures { IfOk result (λ v. v ≡ error_output error.now cause.now) }
 {
     let mut fields = Fields::new(alloc);
-    let cause = Json::Str(Text::from_str(alloc, cause)?);
-    fields.insert(Text::from_str(alloc, "Cause")?, cause)?;
-    let error = Json::Str(Text::from_str(alloc, error)?);
-    fields.insert(Text::from_str(alloc, "Error")?, error)?;
+    set_text(alloc, &mut fields, "Cause", cause)?;
+    set_text(alloc, &mut fields, "Error", error)?;
     Ok(Json::Obj(fields))
+}
+
+/// What was put into the raw data, where it is small enough.
+fn small_put(put: Result<Json, PutError>) -> Result<Json, FlowError>
+    ensures { (due : Option Json) → Puts put due → Gives (λ v. v) result (named (small_or shape_error.ResultPath due)) }
+{
+    match put {
+        Ok(value) => {
+            if is_small(&value) {
+                return Ok(value);
+            }
+            drop(value);
+            Err(FlowError::Named(StateError::TooLarge))
+        }
+        Err(PutError::NoPlace) => Err(FlowError::Named(StateError::ResultPath)),
+        Err(PutError::NoMemory) => Err(FlowError::NoMemory),
+    }
 }
 
 /// The raw data with the Error Output where a catcher's `ResultPath` leads, or the raw data alone for null.
@@ -86,10 +113,7 @@ pub fn put_error(
         return small_copy(alloc, raw);
     };
     let output = error_output(alloc, error, cause)?;
-    match path.put(alloc, raw, &output) {
-        Ok(value) if is_small(&value) => Ok(value),
-        Ok(_) => Err(FlowError::Named(StateError::TooLarge)),
-        Err(PutError::NoPlace) => Err(FlowError::Named(StateError::ResultPath)),
-        Err(PutError::NoMemory) => Err(FlowError::NoMemory),
-    }
+    let put = path.put(alloc, raw, &output);
+    drop(output);
+    small_put(put)
 }

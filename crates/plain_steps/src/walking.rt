@@ -1,12 +1,13 @@
-ghost use Rattle.std.specs.Prelude.{◌≡◌, IfOk};
+ghost use Rattle.std.specs.Prelude.{◌≡◌, Some, IfOk};
 ghost use Rattle.asl_model.specs.Central.{used_by};
 ghost use Rattle.asl_model.specs.Data.{Text as ModelText, failure, no_state_error};
 ghost use Rattle.asl_model.specs.Head.{zeros};
 ghost use Rattle.asl_model.specs.Step.{standard};
-ghost use Rattle.asl_model.specs.Stretch.{stretch, after, after_in};
-ghost use Rattle.asl_model.specs.Machine.{state_of};
+ghost use Rattle.asl_model.specs.Stretch.{stretch, stop_on, stop_at, after, after_in};
+ghost use Rattle.asl_model.specs.Machine.{Block as ModelBlock, State as ModelState, state_of};
 ghost use Rattle.asl_model.specs.Tree.{block_tree, state_tree};
-ghost use Rattle.plain_steps.specs.Stopping.{visited_of, stop_of, after_enter, HasInputs, StepIs, StepHasInputs};
+ghost use Rattle.plain_steps.specs.Stopping.{visited_of, stop_of, step_go, after_enter, FansOut, HasInputs, Going, StepIs, StepHasInputs};
+ghost use Rattle.plain_steps.specs.Views.{onward_of, begun_of};
 
 use crate::beginning::begin;
 use crate::finishing::{finish, parts_of};
@@ -51,6 +52,47 @@ fn over_astray<'m>(alloc: Global, name: &Text) -> Result<Stop<'m>, NoMemory>
     Ok(Stop::Over(failure(alloc, "no such state", name.as_str())?))
 }
 
+/// A state that goes on leads to another one, or to the end of its scope.
+fn step_of(onward: Onward<'_>) -> Step<'_>
+    ensures step { (b : ModelBlock) (go : Going) → stop_on (onward_of onward.entry) go ≡ step_go b result go }
+    ensures inputs { (b : ModelBlock) → StepHasInputs b result }
+{
+    match onward {
+        Onward::Goes { next, data, again } => Step::Goes { next, data, again },
+        Onward::Ends(outcome) => Step::Stops(Stop::Over(outcome)),
+    }
+}
+
+/// What comes of a state of that name that was entered with these raw data and this list used, after what it does first.
+fn step_at<'m>(name: &'m Text, hop: u32, raw: Json, used: Used, begun: Begun<'m>) -> Step<'m>
+    ensures step { (b : ModelBlock) (state : ModelState) (go : Going) → Some state ≡ state_of b name.now → stop_at name.now state hop raw used (begun_of begun.entry) go ≡ step_go b result go }
+    ensures inputs { (b : ModelBlock) → FansOut (state_of b name.now) (begun_of begun.entry) → StepHasInputs b result }
+{
+    match begun {
+        Begun::On(onward) => {
+            drop(used);
+            drop(raw);
+            step_of(onward)
+        }
+        Begun::Calls { resource: _, input } => {
+            drop(input);
+            Step::Stops(Stop::Call {
+                state: name,
+                hop,
+                raw,
+                used,
+            })
+        }
+        Begun::Fans(inputs) => Step::Stops(Stop::Fan {
+            state: name,
+            hop,
+            raw,
+            used,
+            inputs,
+        }),
+    }
+}
+
 /// What comes of entering the state of that name.
 fn enter<'m>(
     alloc: Global,
@@ -64,27 +106,21 @@ fn enter<'m>(
     ensures inputs { IfOk result (StepHasInputs (block_tree block.now)) }
 {
     let Some(state) = block.state(name.as_bytes()) else {
+        drop(again);
+        drop(raw);
         return Ok(Step::Stops(over_astray(alloc, name)?));
     };
-    match begin(alloc, name, state, &raw)? {
-        Begun::On(Onward::Goes { next, data, again }) => Ok(Step::Goes { next, data, again }),
-        Begun::On(Onward::Ends(outcome)) => Ok(Step::Stops(Stop::Over(outcome))),
-        Begun::Calls {
-            resource: _,
-            input: _,
-        } => Ok(Step::Stops(Stop::Call {
-            state: name,
-            hop,
-            raw,
-            used: used_by(alloc, state, again)?,
-        })),
-        Begun::Fans(inputs) => Ok(Step::Stops(Stop::Fan {
-            state: name,
-            hop,
-            raw,
-            used: used_by(alloc, state, again)?,
-            inputs,
-        })),
+    let Ok(used) = used_by(alloc, state, again) else {
+        drop(raw);
+        return Err(NoMemory);
+    };
+    match begin(alloc, name, state, &raw) {
+        Ok(begun) => Ok(step_at(name, hop, raw, used, begun)),
+        Err(NoMemory) => {
+            drop(used);
+            drop(raw);
+            Err(NoMemory)
+        }
     }
 }
 
@@ -120,6 +156,8 @@ fn stretch<'m>(
             }
         }
     }
+    drop(again);
+    drop(raw);
     Ok(Stop::Over(failure(alloc, "Unum.HopLimit", name.as_str())?))
 }
 
