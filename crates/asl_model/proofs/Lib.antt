@@ -30,3 +30,4 @@ pub mod Bounds
 pub mod StopLaw
 pub mod EndedLaw
 pub mod ReachLaw
+pub mod Rows

@@ -14,6 +14,8 @@ pub mod Numbers
 pub mod Sequential
 pub mod Stops
 pub mod Examples
+pub mod Flows
 pub mod Limits
+pub mod RunLimits
 pub mod Laws
 pub mod Lawful

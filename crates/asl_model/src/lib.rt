@@ -7,6 +7,7 @@ mod machine;
 mod shapes;
 mod shown;
 mod validity;
+mod worked;
 
 pub use counting::count_states;
 pub use laws::{central_runs, lawful, numbers, runs, sequential, stops, valid};
@@ -14,3 +15,4 @@ pub use machine::{After, Block, Care, Catcher, Machine, Retrier, State, TopRule}
 pub use shapes::{ItemTemplate, MapShape, PassShape, PathShape};
 pub use shown::{examples, failures, limits_of_validity};
 pub use validity::{BrokenRule, VRule};
+pub use worked::{flows, limits};
