@@ -1,5 +1,5 @@
 -- What is told of bytes that were read or written.
-use Rattle.std.specs.Prelude.{ℕ, ◌<◌, ◌≤◌, List, length, take, Option, Result, Ok, Err, Vec}
+use Rattle.std.specs.Prelude.{◌≡◌, ℕ, ◌<◌, ◌≤◌, List, length, take, Option, Result, Ok, Err, Vec}
 use Rattle.std.specs.declared.alloc.Global.{Global}
 use Rattle.std.specs.Io.KnownBytes.{Consumes, Appends, IsAtEnd}
 use Rattle.unum_io.specs.Causes.{Rose}
@@ -31,6 +31,11 @@ ReadsAll old new before now max (Ok bytes) = GaveAll old new max bytes.items
 ReadsAll old new before now max (Err TooLong) = GaveMore old new max
 ReadsAll old new before now max (Err Fault) = Rose before now × GaveSome old new max
 ReadsAll old new before now max (Err NoMemory) = (given : List ℕ) × Consumes old new given
+
+-- where no read failed, the count of faults is as it was before
+abbrev pub CountsFaults : (before now : ℕ) → Result (Vec ℕ Global) ReadAll → Type 0
+CountsFaults before now (Err Fault) = Rose before now
+CountsFaults before now _ = now ≡ before
 
 -- some front of the text was taken
 pub record TookFront (old new : Option (List ℕ)) (text : List ℕ) : Type 0 where

@@ -1,7 +1,7 @@
 ghost use Rattle.std.specs.Prelude.{◌≡◌, ◌≤◌, OnOk, OnErr};
 ghost use Rattle.std.specs.Io.KnownBytes.{Appends};
 ghost use Rattle.unum_io.specs.Causes.{HasCause};
-ghost use Rattle.unum_io.specs.Told.{ReadsAll, TookFront};
+ghost use Rattle.unum_io.specs.Told.{CountsFaults, ReadsAll, TookFront};
 
 use crate::sink::Sink;
 use crate::source::{Failed, Source};
@@ -27,9 +27,10 @@ pub enum ReadAll {
 /// All bytes to the end, of which there are at most `max`. Each read is handed a buffer of 4,096 bytes.
 ///
 /// `TooLong` comes exactly where more than `max` bytes were given, and `Fault` only where the source's count of faults
-/// rose.
+/// rose. Else that count is as it was.
 pub fn read_all<S: Source>(alloc: Global, source: &mut S, max: u64) -> Result<Bytes, ReadAll>
     ensures later { S.faults source.old ≤ S.faults source.new }
+    ensures counted { CountsFaults (S.faults source.old) (S.faults source.new) result }
     ensures read { ReadsAll (S.left source.old) (S.left source.new) (S.faults source.old) (S.faults source.new) max result }
 {
     let mut bytes = Vec::new(alloc);
@@ -50,7 +51,8 @@ pub fn read_all<S: Source>(alloc: Global, source: &mut S, max: u64) -> Result<By
 
 /// Writes the whole text. Each write is handed all that is left of it.
 ///
-/// `Failed` comes only where the sink's count of faults rose. Then a front of the text was taken.
+/// `Failed` comes only where the sink's count of faults rose. Then a front of the text was taken. Else that count is as it
+/// was.
 pub fn write_all<K: Sink>(sink: &mut K, text: &[u8]) -> Result<(), Failed>
     ensures ok { OnOk result (Appends (K.taken sink.old) (K.taken sink.new) text.now) }
     ensures err { OnErr result (TookFront (K.taken sink.old) (K.taken sink.new) text.now) }

@@ -1,8 +1,8 @@
 //! Sources and sinks of bytes that count their faults.
 //!
 //! Contracts see of a source what is left, and of a sink what was taken, where that is told (it is over memory), and of
-//! each a count of faults. The count never falls, and a call fails only where it rose. A count that has reached the
-//! greatest `u64` stays there, and then counts as risen.
+//! each a count of faults. The count never falls, a call fails only where it rose, and a call that does not fail leaves it
+//! as it was. A count that has reached the greatest `u64` stays there, and then counts as risen.
 #![tactic(auto)]
 
 mod all;

@@ -17,7 +17,7 @@ pub trait Sink {
 
     /// Takes some of the bytes from the front, at least one if there is one, and says how many.
     ///
-    /// `Failed` comes only where the count of faults rose. Then nothing was taken.
+    /// `Failed` comes only where the count of faults rose, and else that count is as it was. At `Failed` nothing was taken.
     fn write(&mut self, from: &[u8]) -> Result<usize, Failed>
         ensures bound { WritesAtMost result from.now }
         ensures some { IfOk result (λ n. 0 < length from.now → 0 < n) }

@@ -20,7 +20,7 @@ pub trait Source {
 
     /// Gives the next bytes, and says how many. With room in the buffer, 0 means the end.
     ///
-    /// `Failed` comes only where the count of faults rose. Then nothing was given.
+    /// `Failed` comes only where the count of faults rose, and else that count is as it was. At `Failed` nothing was given.
     fn read(&mut self, into: &mut [u8]) -> Result<usize, Failed>
         ensures bound { ReadsAtMost result into.new }
         ensures bytes { ReadConsumes (left self.old) (left self.new) result into.new }
