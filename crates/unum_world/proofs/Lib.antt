@@ -18,5 +18,6 @@ pub mod SitedStart
 pub mod SitedSteps
 pub mod StepRoom
 pub mod Stores
+pub mod Worked
 pub mod Worldly
 pub mod Zips

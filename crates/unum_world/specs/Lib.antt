@@ -12,4 +12,5 @@ pub mod Sessions
 pub mod Sited
 pub mod Sound
 pub mod Stretch
+pub mod Worked
 pub mod Worlds
