@@ -1,0 +1,107 @@
+//! Runs cases of the program: reads them from standard input, one a line, and prints each with what it comes to. What is
+//! expected was made by an independent interpreter of the same rules.
+//!
+//! The bytes that cases are given stand in lines of their own:
+//!
+//! - `bundle TEXT`: that text, in which `\xHH` stands for a byte;
+//! - `change OLD | NEW`: the last bundle with NEW in place of the first OLD;
+//! - `nest N OLD`: the last bundle with arrays, N deep, in place of the first OLD;
+//! - `chain N`: a bundle with a chain of N Tasks;
+//! - `blank N`: N blanks;
+//! - `sessions N M`: the worlds of the last bundle have two sessions, with these inputs.
+//!
+//! The cases:
+//!
+//! - `tool WORDS | reads N .. | writes N ..`: the top call with these words, where the reads and writes of these numbers fail;
+//! - `prefixes WORDS`: the same for each proper prefix of the bytes;
+//! - `world LIMIT WORDS` and `settled LIMIT WORDS`: a world that has just begun, or has settled, and what `worlds` does in it;
+//! - `plan step N | twin N | pick LEN OF`: what the plan of the bundle says;
+//! - `begin STATE RAW`, `finish STATE RAW USED ANSWER` and `stop STATE HOP RAW USED ANSWER`: what a state of the machine in
+//!   `machine` does first, how it goes on after an answer, and where its scope stops next (STATE is `-` for the Enter);
+//! - `join ANSWER | ANSWER ..`: what the branches of a fan come to.
+//!
+//! An ANSWER is `ok VALUE` or `fail ERROR CAUSE`. Lines that begin with `#` are printed as they are.
+#![tactic(auto)]
+
+mod calls;
+mod fault;
+mod given;
+mod machine;
+mod plans;
+mod stops;
+mod worlds;
+
+use calls::{prefixes, tool_case};
+use fault::Fault;
+use given::Given;
+use plans::plan;
+use std::alloc::Global;
+use std::io;
+use stops::{join, visit};
+use worlds::{settled, world};
+
+/// The word that a line begins with, and the rest.
+fn split_word(line: &str) -> (&str, &str) {
+    match line.split_once(" ") {
+        Some(parts) => parts,
+        None => (line, ""),
+    }
+}
+
+/// Sets what cases are given, where the line does that.
+fn sets(alloc: Global, given: &mut Given, line: &str) -> Result<bool, Fault> {
+    let (word, rest) = split_word(line);
+    match word {
+        "bundle" => given.set_bundle(rest),
+        "change" => given.change(rest),
+        "nest" => given.nest(rest),
+        "chain" => given.chain(alloc, rest),
+        "blank" => given.blank(rest),
+        "sessions" => given.set_sessions(rest),
+        _ => Ok(false),
+    }
+}
+
+/// Writes what a case comes to.
+fn run(alloc: Global, given: &Given, out: &mut String, line: &str) -> Result<(), Fault> {
+    let (word, rest) = split_word(line);
+    match word {
+        "tool" => tool_case(alloc, out, given.bytes(), rest),
+        "prefixes" => prefixes(alloc, out, given.bytes(), rest),
+        "world" => world(alloc, out, given, rest),
+        "settled" => settled(alloc, out, given, rest),
+        "plan" => plan(alloc, out, given.bytes(), rest),
+        "join" => join(alloc, out, rest),
+        "begin" | "finish" | "stop" => visit(alloc, out, word, rest),
+        "#" => Ok(()),
+        _ => Err(Fault::NotRead),
+    }
+}
+
+/// Writes a case with what it comes to.
+fn tell(alloc: Global, given: &mut Given, out: &mut String, line: &str) -> Result<(), Fault> {
+    if line.is_empty() {
+        return Ok(());
+    }
+    writeln!(out, "{line}")?;
+    if sets(alloc, given, line)? {
+        return Ok(());
+    }
+    run(alloc, given, out, line)
+}
+
+fn main(rt: HostRuntime) -> io::Result<()> {
+    let alloc = rt.alloc();
+    let mut given = Given::new(alloc);
+    let mut out = String::new(alloc);
+    for line in rt.lines(alloc) {
+        let line = line?;
+        out.clear();
+        let told = tell(alloc, &mut given, &mut out, line.as_str());
+        print!(rt; "{}", out.as_str())?;
+        if let Err(fault) = told {
+            println!(rt; "{fault:?}")?;
+        }
+    }
+    Ok(())
+}

@@ -1,0 +1,49 @@
+//! Cases of plans.
+
+use crate::fault::Fault;
+use crate::given::{number, parted};
+use std::alloc::Global;
+use unum_cli::read_bundle;
+use unum_world::Plan;
+
+fn tell_pick(out: &mut String, plan: &Plan, part: &str, rest: &str) -> Result<(), Fault> {
+    let (length, of) = parted(rest, " ")?;
+    let (length, of) = (number(length)?, number(of)?);
+    if of == 0 {
+        return Err(Fault::NotRead);
+    }
+    writeln!(
+        out,
+        "{part}: {}",
+        plan.pick(u64::from(length), u64::from(of))
+    )?;
+    Ok(())
+}
+
+fn tell_part(out: &mut String, plan: &Plan, part: &str) -> Result<(), Fault> {
+    let (word, rest) = parted(part, " ")?;
+    match word {
+        "step" => writeln!(out, "{part}: {:?}", plan.crash_step(number(rest)?))?,
+        "twin" => writeln!(out, "{part}: {}", plan.twin(number(rest)?))?,
+        "pick" => tell_pick(out, plan, part, rest)?,
+        _ => return Err(Fault::NotRead),
+    }
+    Ok(())
+}
+
+fn tell(out: &mut String, plan: &Plan, parts: &str) -> Result<(), Fault> {
+    for part in parts.split('|') {
+        tell_part(out, plan, part.trim())?;
+    }
+    Ok(())
+}
+
+/// What the plan of a bundle says.
+pub fn plan(alloc: Global, out: &mut String, bytes: &[u8], rest: &str) -> Result<(), Fault> {
+    let Ok(opening) = read_bundle(alloc, bytes) else {
+        return Err(Fault::NotRead);
+    };
+    let told = tell(out, &opening.plan, rest);
+    drop(opening);
+    told
+}
