@@ -1,5 +1,6 @@
 ghost use Rattle.std.specs.Prelude.{◌≡◌, IfOk};
 
+use crate::adding::add_field;
 use crate::path::{Path, PathStep};
 use crate::template::{Part, Template};
 use std::alloc::Global;
@@ -56,8 +57,8 @@ fn copy_part_fields(alloc: Global, fields: &Fields<Part>) -> Result<Fields<Part>
 {
     let mut copies = Fields::new(alloc);
     for field in fields.as_slice() {
-        let key = copy_text(alloc, &field.0)?;
-        copies.push(key, copy_part(alloc, &field.1)?)?;
+        let part = copy_part(alloc, &field.1)?;
+        add_field(alloc, &mut copies, &field.0, part)?;
     }
     Ok(copies)
 }
