@@ -3,3 +3,4 @@ pub mod Turns
 pub mod Searches
 pub mod MatchTest
 pub mod PatternReading
+pub mod Tries
