@@ -10,3 +10,4 @@ pub mod Found
 pub mod Rules
 pub mod Machines
 pub mod Reads
+pub mod Examples

@@ -14,6 +14,8 @@ mod parts;
 mod rows;
 mod rules;
 mod shapes;
+mod shown;
+mod state_rows;
 mod table;
 mod values;
 
@@ -21,5 +23,6 @@ pub use checking::{check, check_fields};
 pub use fault::{LRule, ReadFault, refused, refused_at, under_index, under_key};
 pub use machines::{machine_of, read_machine};
 pub use objects::{LeftOut, Need, Row, check_keys, check_required, how_of};
+pub use shown::examples;
 pub use table::{How, Kind, StateType};
 pub use values::{json_of, text_in, text_of, whole_of};
