@@ -1,5 +1,5 @@
 //! The worker's loop.
-ghost use Rattle.std.specs.Prelude.{◌≡◌};
+ghost use Rattle.std.specs.Prelude.{◌≡◌, IfOk};
 ghost use mathlib.Core.List.{IsPrefix};
 ghost use Rattle.seat_lock.specs.Locks.{IsOf};
 ghost use Rattle.worker_gate.specs.Picks.{OnIdle, OnSpent, IsDone};
@@ -9,9 +9,10 @@ use crate::engine::Engine;
 use crate::gate::Gate;
 use crate::jobs::{Asks, Hands};
 use crate::pick::Pick;
-use fn_table::Functions;
+use fn_table::{Answered, FnKind, Functions};
 use seat_lock::{Seat, SeatLock};
 use std::sync::Wait;
+use unum_json::{Json, NoMemory};
 
 /// Why a worker stopped.
 #[derive(Clone, Copy, PartialEq, Eq, Debug, Drop)]
@@ -31,6 +32,22 @@ pub struct Worked<E: Engine> {
     pub seat: Seat<E>,
     /// Why the worker stopped.
     pub ended: WorkEnd,
+}
+
+/// Calls a function, of which the gate is told.
+fn call<F: Functions, G: Gate>(
+    f: &F,
+    g: &G,
+    kind: &FnKind,
+    input: &Json,
+    ticket: u32,
+) -> Result<Answered, NoMemory>
+    ensures { IfOk result (λ a. a ≡ record { kind = kind.now; input = input.now; ticket = ticket }) }
+{
+    g.before_call(ticket);
+    let answered = f.answer(kind, input, ticket);
+    g.after_call(ticket);
+    answered
 }
 
 /// One turn, and where it asks for a function, the call and the turn in which the answer is handed in.
@@ -56,12 +73,16 @@ fn step<E: Engine, F: Functions, G: Gate, R: Wait>(
             input,
             ticket,
         } => {
-            g.before_call(ticket);
-            let answered = f.answer(&kind, &input, ticket);
-            g.after_call(ticket);
+            let answered = call(f, g, &kind, &input, ticket);
+            drop(input);
+            drop(kind);
             match answered {
-                Ok(done) => lock.turn(rt, seat, Hands { done: &done }),
-                Err(_) => Pick::NoMemory,
+                Ok(done) => {
+                    let pick = lock.turn(rt, seat, Hands { done: &done });
+                    drop(done);
+                    pick
+                }
+                Err(NoMemory) => Pick::NoMemory,
             }
         }
         pick => pick,
