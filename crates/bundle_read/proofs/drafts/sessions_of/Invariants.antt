@@ -1,0 +1,7 @@
+use Rattle.std.proofs.Common.{◌≡◌, ◌++◌, map, drop}
+use Rattle.serde_json.specs.View.{view}
+use Rattle.bundle_read.specs.Drafts.{session_of}
+use Rattle.bundle_read.proofs.drafts.sessions_of.Given as goal
+
+abbrev pub invariant-loop-item : goal.invariant-loop-item
+invariant-loop-item l = map session_of (map view l.items) ≡ l.sessions ++ map session_of (map view (drop l.item-index l.items))
