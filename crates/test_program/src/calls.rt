@@ -10,12 +10,17 @@ use unum_json::{Items, Text};
 /// The most bytes that a call may write.
 const ROOM: u64 = 65_536;
 
-/// The words of a list, between which there are blanks.
-fn words(alloc: Global, list: &str) -> Result<Items<Text>, Fault> {
-    let mut words = Items::new(alloc);
+fn push_words(alloc: Global, words: &mut Items<Text>, list: &str) -> Result<(), Fault> {
     for word in list.split_whitespace() {
         words.push(Text::from_str(alloc, word)?)?;
     }
+    Ok(())
+}
+
+/// The words of a list, between which there are blanks.
+fn words(alloc: Global, list: &str) -> Result<Items<Text>, Fault> {
+    let mut words = Items::new(alloc);
+    push_words(alloc, &mut words, list)?;
     Ok(words)
 }
 

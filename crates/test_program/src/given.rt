@@ -2,6 +2,7 @@
 
 use crate::fault::Fault;
 use std::alloc::Global;
+use std::fmt::Debug;
 
 /// The last bundle, and the bytes that lines made of it.
 #[derive(Drop)]
@@ -20,6 +21,17 @@ pub fn number(word: &str) -> Result<u32, Fault> {
 /// The whole number in a word.
 pub fn whole(word: &str) -> Result<i64, Fault> {
     word.parse().ok().ok_or(Fault::NotRead)
+}
+
+/// The word that a line begins with, and the rest.
+pub fn split_word(line: &str) -> (&str, &str) {
+    line.split_once(" ").unwrap_or((line, ""))
+}
+
+/// Writes a line with a word and what it comes to.
+pub fn tell<V: Debug>(out: &mut String, word: &str, value: &V) -> Result<(), Fault> {
+    writeln!(out, "{word}: {value:?}")?;
+    Ok(())
 }
 
 /// The two parts of a text round the first place of a mark.
@@ -111,19 +123,6 @@ impl Given {
         self.bytes.clear();
         push_text(&mut self.bytes, before)?;
         push_text(&mut self.bytes, new)?;
-        push_text(&mut self.bytes, behind)?;
-        Ok(true)
-    }
-
-    /// The bundle with arrays in place of the first such text.
-    pub fn nest(&mut self, rest: &str) -> Result<bool, Fault> {
-        let (times, old) = parted(rest, " ")?;
-        let times = number(times)?;
-        let (before, behind) = parted(self.bundle.as_str(), old)?;
-        self.bytes.clear();
-        push_text(&mut self.bytes, before)?;
-        push_times(&mut self.bytes, b'[', times)?;
-        push_times(&mut self.bytes, b']', times)?;
         push_text(&mut self.bytes, behind)?;
         Ok(true)
     }

@@ -21,8 +21,9 @@ fn text(alloc: Global, text: &str) -> Result<Text, Fault> {
 }
 
 fn names(alloc: Global, name: &str) -> Result<Items<Text>, Fault> {
+    let name = text(alloc, name)?;
     let mut names = Items::new(alloc);
-    names.push(text(alloc, name)?)?;
+    names.push(name)?;
     Ok(names)
 }
 

@@ -5,7 +5,6 @@
 //!
 //! - `bundle TEXT`: that text, in which `\xHH` stands for a byte;
 //! - `change OLD | NEW`: the last bundle with NEW in place of the first OLD;
-//! - `nest N OLD`: the last bundle with arrays, N deep, in place of the first OLD;
 //! - `chain N`: a bundle with a chain of N Tasks;
 //! - `blank N`: N blanks;
 //! - `sessions N M`: the worlds of the last bundle have two sessions, with these inputs.
@@ -33,20 +32,12 @@ mod worlds;
 
 use calls::{prefixes, tool_case};
 use fault::Fault;
-use given::Given;
+use given::{Given, split_word};
 use plans::plan;
 use std::alloc::Global;
 use std::io;
 use stops::{join, visit};
 use worlds::{settled, world};
-
-/// The word that a line begins with, and the rest.
-fn split_word(line: &str) -> (&str, &str) {
-    match line.split_once(" ") {
-        Some(parts) => parts,
-        None => (line, ""),
-    }
-}
 
 /// Sets what cases are given, where the line does that.
 fn sets(alloc: Global, given: &mut Given, line: &str) -> Result<bool, Fault> {
@@ -54,7 +45,6 @@ fn sets(alloc: Global, given: &mut Given, line: &str) -> Result<bool, Fault> {
     match word {
         "bundle" => given.set_bundle(rest),
         "change" => given.change(rest),
-        "nest" => given.nest(rest),
         "chain" => given.chain(alloc, rest),
         "blank" => given.blank(rest),
         "sessions" => given.set_sessions(rest),

@@ -1,7 +1,7 @@
 //! Cases of plans.
 
 use crate::fault::Fault;
-use crate::given::{number, parted};
+use crate::given::{number, parted, tell};
 use std::alloc::Global;
 use unum_cli::read_bundle;
 use unum_world::Plan;
@@ -12,26 +12,20 @@ fn tell_pick(out: &mut String, plan: &Plan, part: &str, rest: &str) -> Result<()
     if of == 0 {
         return Err(Fault::NotRead);
     }
-    writeln!(
-        out,
-        "{part}: {}",
-        plan.pick(u64::from(length), u64::from(of))
-    )?;
-    Ok(())
+    tell(out, part, &plan.pick(u64::from(length), u64::from(of)))
 }
 
 fn tell_part(out: &mut String, plan: &Plan, part: &str) -> Result<(), Fault> {
     let (word, rest) = parted(part, " ")?;
     match word {
-        "step" => writeln!(out, "{part}: {:?}", plan.crash_step(number(rest)?))?,
-        "twin" => writeln!(out, "{part}: {}", plan.twin(number(rest)?))?,
-        "pick" => tell_pick(out, plan, part, rest)?,
-        _ => return Err(Fault::NotRead),
+        "step" => tell(out, part, &plan.crash_step(number(rest)?)),
+        "twin" => tell(out, part, &plan.twin(number(rest)?)),
+        "pick" => tell_pick(out, plan, part, rest),
+        _ => Err(Fault::NotRead),
     }
-    Ok(())
 }
 
-fn tell(out: &mut String, plan: &Plan, parts: &str) -> Result<(), Fault> {
+fn tell_all(out: &mut String, plan: &Plan, parts: &str) -> Result<(), Fault> {
     for part in parts.split('|') {
         tell_part(out, plan, part.trim())?;
     }
@@ -43,7 +37,7 @@ pub fn plan(alloc: Global, out: &mut String, bytes: &[u8], rest: &str) -> Result
     let Ok(opening) = read_bundle(alloc, bytes) else {
         return Err(Fault::NotRead);
     };
-    let told = tell(out, &opening.plan, rest);
+    let told = tell_all(out, &opening.plan, rest);
     drop(opening);
     told
 }

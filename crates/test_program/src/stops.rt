@@ -15,13 +15,18 @@ fn json(alloc: Global, text: &str) -> Result<Json, Fault> {
     to_json(alloc, &value).map_err(|_| Fault::NotRead)
 }
 
+fn push_used(used: &mut Used, list: &str) -> Result<(), Fault> {
+    for word in list.split(',') {
+        used.push(number(word)?)?;
+    }
+    Ok(())
+}
+
 /// How often each retrier was taken: numbers with commas between them, or `-` for none.
 fn used(alloc: Global, list: &str) -> Result<Used, Fault> {
     let mut used = Items::new(alloc);
     if list != "-" {
-        for word in list.split(',') {
-            used.push(number(word)?)?;
-        }
+        push_used(&mut used, list)?;
     }
     Ok(used)
 }
@@ -61,6 +66,11 @@ fn push_over(alloc: Global, out: &mut String, outcome: &Outcome) -> Result<(), F
     pushed
 }
 
+fn tell_used(out: &mut String, used: &Used) -> Result<(), Fault> {
+    write!(out, ", used {:?}", used.as_slice())?;
+    Ok(())
+}
+
 /// Adds a stop at a state.
 fn push_stop(
     alloc: Global,
@@ -70,10 +80,10 @@ fn push_stop(
     raw: &Json,
     used: &Used,
 ) -> Result<(), Fault> {
-    write!(out, "{name} at {hop}, raw ")?;
+    out.push_str(name)?;
+    write!(out, " at {hop}, raw ")?;
     push_json(alloc, out, raw)?;
-    write!(out, ", used {:?}", used.as_slice())?;
-    Ok(())
+    tell_used(out, used)
 }
 
 fn tell_stop(alloc: Global, out: &mut String, stop: &Stop<'_>) -> Result<(), Fault> {
@@ -107,12 +117,14 @@ fn tell_onward(alloc: Global, out: &mut String, onward: &Onward<'_>) -> Result<(
     match onward {
         Onward::Ends(outcome) => push_over(alloc, out, outcome),
         Onward::Goes { next, data, again } => {
-            write!(out, "goes to {}, data ", next.as_str())?;
+            out.push_str("goes to ")?;
+            out.push_str(next.as_str())?;
+            out.push_str(", data ")?;
             push_json(alloc, out, data)?;
-            if let Some(used) = again {
-                write!(out, ", used {:?}", used.as_slice())?;
+            match again {
+                None => Ok(()),
+                Some(used) => tell_used(out, used),
             }
-            Ok(())
         }
     }
 }
@@ -121,7 +133,9 @@ fn tell_begun(alloc: Global, out: &mut String, begun: &Begun<'_>) -> Result<(), 
     match begun {
         Begun::On(onward) => tell_onward(alloc, out, onward),
         Begun::Calls { resource, input } => {
-            write!(out, "calls {} ", resource.as_str())?;
+            out.push_str("calls ")?;
+            out.push_str(resource.as_str())?;
+            out.push_str(" ")?;
             push_json(alloc, out, input)
         }
         Begun::Fans(inputs) => {
@@ -132,24 +146,16 @@ fn tell_begun(alloc: Global, out: &mut String, begun: &Begun<'_>) -> Result<(), 
 }
 
 /// The state of that name.
-fn named<'m>(block: &'m Block, name: &str) -> Result<(&'m Text, &'m State), Fault> {
-    for row in block.states.as_slice() {
-        if row.0.as_str() == name {
-            return Ok((&row.0, &row.1));
-        }
-    }
-    Err(Fault::NotRead)
+fn named<'m>(block: &'m Block, name: &Text) -> Result<&'m State, Fault> {
+    block.state(name.as_bytes()).ok_or(Fault::NotRead)
 }
 
 /// What is visited at the state of this name, and the Enter for `-`.
-fn visited<'m>(block: &'m Block, name: &str) -> Result<Visited<'m>, Fault> {
-    if name == "-" {
-        return Ok(Visited::Enter);
-    }
-    let (name, state) = named(block, name)?;
-    match state {
-        State::Task { .. } => Ok(Visited::Task(name)),
-        _ => Ok(Visited::Join(name)),
+fn visited<'m>(block: &'m Block, name: &'m Text) -> Visited<'m> {
+    match block.state(name.as_bytes()) {
+        None => Visited::Enter,
+        Some(State::Task { .. }) => Visited::Task(name),
+        Some(_) => Visited::Join(name),
     }
 }
 
@@ -217,18 +223,20 @@ fn tell_after(
 
 fn begin_case(alloc: Global, out: &mut String, block: &Block, words: &str) -> Result<(), Fault> {
     let (name, raw) = parted(words, " ")?;
-    let (name, state) = named(block, name)?;
+    let name = Text::from_str(alloc, name)?;
+    let state = named(block, &name)?;
     let raw = json(alloc, raw)?;
-    let told = tell_first(alloc, out, name, state, &raw);
+    let told = tell_first(alloc, out, &name, state, &raw);
     drop(raw);
     told
 }
 
 fn finish_case(alloc: Global, out: &mut String, block: &Block, words: &str) -> Result<(), Fault> {
     let (name, words) = parted(words, " ")?;
-    let (name, state) = named(block, name)?;
+    let name = Text::from_str(alloc, name)?;
+    let state = named(block, &name)?;
     let had = read_had(alloc, words)?;
-    let told = tell_then(alloc, out, name, state, &had);
+    let told = tell_then(alloc, out, &name, state, &had);
     drop(had);
     told
 }
@@ -236,9 +244,10 @@ fn finish_case(alloc: Global, out: &mut String, block: &Block, words: &str) -> R
 fn stop_case(alloc: Global, out: &mut String, block: &Block, words: &str) -> Result<(), Fault> {
     let (name, words) = parted(words, " ")?;
     let (hop, words) = parted(words, " ")?;
-    let (visited, hop) = (visited(block, name)?, number(hop)?);
+    let hop = number(hop)?;
+    let name = Text::from_str(alloc, name)?;
     let had = read_had(alloc, words)?;
-    let told = tell_after(alloc, out, block, visited, hop, &had);
+    let told = tell_after(alloc, out, block, visited(block, &name), hop, &had);
     drop(had);
     told
 }

@@ -9,7 +9,7 @@ ghost use Rattle.std.specs.Prelude.{◌≤◌, ◌<◌, IfOk, length};
 ghost use Rattle.unum_world.specs.Seen.{Fits};
 
 use crate::fault::Fault;
-use crate::given::{Given, number, parted, whole};
+use crate::given::{Given, number, parted, split_word, tell, whole};
 use fn_table::{BuiltIns, FnKind, Functions};
 use std::alloc::Global;
 use unum_cli::read_bundle;
@@ -80,7 +80,7 @@ fn event(word: &str) -> Result<Event, Fault> {
 
 fn tell_refusal(out: &mut String, word: &str, made: Result<(), ApplyError>) -> Result<(), Fault> {
     if let Err(refusal) = made {
-        writeln!(out, "{word}: {refusal:?}")?;
+        tell(out, word, &refusal)?;
     }
     Ok(())
 }
@@ -136,15 +136,10 @@ fn make_next(alloc: Global, out: &mut String, world: &mut World) -> Result<(), F
     match world.choose(alloc)? {
         None => out.push_str("next: none\n")?,
         Some(event) => {
-            writeln!(out, "next: {event:?}")?;
+            tell(out, "next", &event)?;
             tell_refusal(out, "next", world.apply(alloc, event))?;
         }
     }
-    Ok(())
-}
-
-fn tell_event(out: &mut String, world: &World, word: &str, at: u32) -> Result<(), Fault> {
-    writeln!(out, "{word} {:?}", world.event(u64::from(at)))?;
     Ok(())
 }
 
@@ -154,11 +149,10 @@ fn ask(out: &mut String, world: &World, word: &str) -> Result<(), Fault> {
     let is = match asked {
         "session" => world.session(number(at)?).is_some(),
         "entry" => world.entry(u64::from(number(at)?)).is_some(),
-        "event" => return tell_event(out, world, word, number(at)?),
+        "event" => return tell(out, word, &world.event(u64::from(number(at)?))),
         _ => world.enabled(event(at)?),
     };
-    writeln!(out, "{word} {is}")?;
-    Ok(())
+    tell(out, word, &is)
 }
 
 /// Does what a word says.
@@ -195,10 +189,7 @@ fn act(alloc: Global, out: &mut String, world: &mut World, words: &str) -> Resul
 fn limited(rest: &str) -> Result<(u64, &str), Fault>
     ensures { IfOk result (λ r. r.0 ≤ 10000000) }
 {
-    let (limit, words) = match rest.split_once(" ") {
-        Some(parts) => parts,
-        None => (rest, ""),
-    };
+    let (limit, words) = split_word(rest);
     let limit = u64::from(number(limit)?);
     if limit <= 10_000_000 {
         Ok((limit, words))
@@ -220,8 +211,7 @@ pub fn world(alloc: Global, out: &mut String, given: &Given, rest: &str) -> Resu
 /// A world that has settled, and how it has.
 fn settle(alloc: Global, out: &mut String, planned: &mut Planned) -> Result<(), Fault> {
     let how = planned.settle(alloc)?;
-    writeln!(out, "{how:?}")?;
-    Ok(())
+    tell(out, "settled", &how)
 }
 
 /// Acts in a world that has settled.
