@@ -8,8 +8,8 @@
 use std::alloc::Global;
 use std::io;
 use std::io::Print;
-use unum_cli::read_bundle;
 use unum_cli::session_report::report;
+use unum_cli::{read_bundle, runnable};
 use unum_world::{ApplyError, Event, World};
 
 /// The event of a word, as `D0`.
@@ -63,7 +63,10 @@ fn run(rt: &impl Print, alloc: Global, world: &mut World, list: &str) -> io::Res
 
 /// Runs a list of events in a new world of a bundle.
 fn run_list(rt: &impl Print, alloc: Global, bundle: &str, list: &str) -> io::Result<()> {
-    let Ok(opening) = read_bundle(alloc, bundle.as_bytes()) else {
+    let Ok(bundle) = read_bundle(alloc, bundle.as_bytes()) else {
+        return println!(rt; "refused");
+    };
+    let Ok(opening) = runnable(alloc, bundle) else {
         return println!(rt; "refused");
     };
     let Ok(mut world) = World::open(alloc, opening, 1_000) else {

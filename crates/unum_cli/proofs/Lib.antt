@@ -1,4 +1,4 @@
-pub mod Accepted
+pub mod Chains
+pub mod Computed
 pub mod Due
 pub mod Lines
-pub mod Members

@@ -1,7 +1,8 @@
-pub mod Bundles
 pub mod Codes
-pub mod Forms
-pub mod Judged
+pub mod Refused
 pub mod Report
+pub mod Runnable
+pub mod Shown
 pub mod Tool
+pub mod Valid
 pub mod Words

@@ -2,47 +2,64 @@
 use Rattle.std.specs.Prelude.{◌≡◌, ℕ, ◌≤◌, ◌⊎◌, List, length, codes, Option, Some, None, Result, Ok, Err}
 use Rattle.std.specs.Io.KnownBytes.{Keeps, Appends, IsAtEnd}
 use Rattle.unum_io.specs.Told.{TookFront}
+use Rattle.asl_read.specs.declared.fault.LRule.TheVariants.{L0}
+use Rattle.bundle_read.specs.Accepted.{Accepted, IsAccepted}
+use Rattle.bundle_read.specs.Judged.{judged}
+use Rattle.bundle_read.specs.declared.refusal.RuleCode.TheVariants.{Reading}
+use Rattle.bundle_read.specs.declared.refusal.Refusal.{Refusal}
+use Rattle.bundle_read.specs.declared.refusal.Refusal.TheVariants.{One}
 use Rattle.unum_world.specs.declared.opening.Opening.{Opening}
 use Rattle.unum_world.specs.Chained.{IsDrained}
 use Rattle.unum_world.specs.Seen.{Past, now, IsChosen}
 use Rattle.unum_world.specs.Answers.{IsEnabledSome}
 use Rattle.unum_world.specs.Sound.{IsSound}
-use Rattle.unum_cli.specs.declared.answer.Rule.{Rule}
-use Rattle.unum_cli.specs.declared.answer.Rule.TheVariants.{L0, L1, L5}
+use Rattle.unum_cli.specs.declared.commands.Command.{Command}
+use Rattle.unum_cli.specs.declared.commands.Command.TheVariants.{Validate, Simulate}
 use Rattle.unum_cli.specs.declared.answer.Status.{Status}
 use Rattle.unum_cli.specs.declared.answer.Status.TheVariants.{Written, Refused, Usage, ReadFault, WriteFault, Spent, NoMemory}
 use Rattle.unum_cli.specs.declared.answer.Desk.{Desk}
 use Rattle.unum_cli.specs.declared.answer.Desk.TheVariants.{Empty, Open}
 use Rattle.unum_cli.specs.declared.taking.TakeError.{TakeError}
 use Rattle.unum_cli.specs.declared.taking.TakeError.TheVariants as take
-use Rattle.unum_cli.specs.Bundles.{judged}
+use Rattle.unum_cli.specs.Refused.{refusal_text}
+use Rattle.unum_cli.specs.Runnable.{runnable}
+use Rattle.unum_cli.specs.Valid.{valid_text}
 use Rattle.unum_cli.specs.Words.{command}
 use Rattle.unum_cli.specs.Report.{report}
-
-abbrev pub refusal_text : Rule → List ℕ
-refusal_text L0 = codes "refused L0 \"\"\n"
-refusal_text L1 = codes "refused L1 \"\"\n"
-refusal_text L5 = codes "refused L5 \"\"\n"
 
 abbrev pub usage_text : List ℕ
 usage_text = codes "usage: unum validate | compile | ir | central | simulate | run | make\n"
 
--- what is due for some words and bytes: the usage line, a refusal, or the simulation of an opening to a limit
+-- ---------------------------------------------------------------- what is due
+
+-- what is due for some words and bytes: the usage line, a refusal, a text, or the simulation of an opening to a limit
 pub data Due : Type 0 where
   Usage_due : Due
-  Refusal_due : Rule → Due
+  Refusal_due : Refusal → Due
+  Text_due : List ℕ → Due
   World_due : Opening → (limit : ℕ) → Due
 
-abbrev pub due_bytes : (limit : ℕ) → Result Opening Rule → Due
-due_bytes limit (Ok o) = World_due o limit
-due_bytes limit (Err rule) = Refusal_due rule
+abbrev pub due_opening : (limit : ℕ) → Result Opening Refusal → Due
+due_opening limit (Ok o) = World_due o limit
+due_opening limit (Err r) = Refusal_due r
 
-abbrev pub due_words : Option ℕ → List ℕ → Due
+-- what a command is to do with a bundle
+abbrev pub due_bundle : Command → Accepted → Due
+due_bundle Validate b = Text_due (valid_text b)
+due_bundle (Simulate limit) b = due_opening limit (runnable b)
+
+abbrev pub due_bytes : Command → Result Accepted Refusal → Due
+due_bytes c (Ok b) = due_bundle c b
+due_bytes c (Err r) = Refusal_due r
+
+abbrev pub due_words : Option Command → List ℕ → Due
 due_words None bytes = Usage_due
-due_words (Some limit) bytes = due_bytes limit (judged bytes)
+due_words (Some c) bytes = due_bytes c (judged bytes)
 
 abbrev pub due : List (List ℕ) → List ℕ → Due
 due words bytes = due_words (command words) bytes
+
+-- ---------------------------------------------------------------- answers
 
 -- a world of that opening and limit, all of whose events are the chooser's
 pub record IsWorldOf (o : Opening) (limit : ℕ) (p : Past) : Type 0 where
@@ -66,12 +83,20 @@ AnswersUsage WriteFault desk old new = (desk ≡ Empty) × TookFront old new usa
 AnswersUsage _ desk old new = ⊥
 
 -- the refusal is written, and nothing is on the desk
-abbrev pub AnswersRefusal : Rule → Status → Desk → (old new : Option (List ℕ)) → Type 0
-AnswersRefusal rule (Refused r) desk old new = (r ≡ rule) × (desk ≡ Empty) × Appends old new (refusal_text rule)
-AnswersRefusal rule WriteFault desk old new = (desk ≡ Empty) × TookFront old new (refusal_text rule)
-AnswersRefusal rule ReadFault desk old new = (desk ≡ Empty) × Keeps old new
-AnswersRefusal rule NoMemory desk old new = (desk ≡ Empty) × Keeps old new
-AnswersRefusal rule _ desk old new = ⊥
+abbrev pub AnswersRefusal : Refusal → Status → Desk → (old new : Option (List ℕ)) → Type 0
+AnswersRefusal due (Refused r) desk old new = (r ≡ due) × (desk ≡ Empty) × Appends old new (refusal_text due)
+AnswersRefusal due WriteFault desk old new = (desk ≡ Empty) × TookFront old new (refusal_text due)
+AnswersRefusal due ReadFault desk old new = (desk ≡ Empty) × Keeps old new
+AnswersRefusal due NoMemory desk old new = (desk ≡ Empty) × Keeps old new
+AnswersRefusal due _ desk old new = ⊥
+
+-- the text is written, and nothing is on the desk
+abbrev pub AnswersText : List ℕ → Status → Desk → (old new : Option (List ℕ)) → Type 0
+AnswersText text Written desk old new = (desk ≡ Empty) × Appends old new text
+AnswersText text WriteFault desk old new = (desk ≡ Empty) × TookFront old new text
+AnswersText text ReadFault desk old new = (desk ≡ Empty) × Keeps old new
+AnswersText text NoMemory desk old new = (desk ≡ Empty) × Keeps old new
+AnswersText text _ desk old new = ⊥
 
 -- the world is on the desk, drained or at its limit, and its report is written
 abbrev pub AnswersWorld : Opening → (limit : ℕ) → Status → Desk → (old new : Option (List ℕ)) → Type 0
@@ -85,46 +110,63 @@ AnswersWorld o limit _ desk old new = ⊥
 -- an answer, the desk and the bytes taken before and after are what is due, or a fault or want of memory came between
 abbrev pub Answers : Due → Status → Desk → (old new : Option (List ℕ)) → Type 0
 Answers Usage_due status desk old new = AnswersUsage status desk old new
-Answers (Refusal_due rule) status desk old new = AnswersRefusal rule status desk old new
+Answers (Refusal_due r) status desk old new = AnswersRefusal r status desk old new
+Answers (Text_due text) status desk old new = AnswersText text status desk old new
 Answers (World_due o limit) status desk old new = AnswersWorld o limit status desk old new
 
--- the same of a world, whatever the bytes were that it was made of
-abbrev pub Shows : Status → Desk → (old new : Option (List ℕ)) → Type 0
-Shows Written desk old new = OnDesk desk (λ p. IsChosen p × IsDrained (now p) × Appends old new (report p))
-Shows Spent desk old new = OnDesk desk (λ p. IsChosen p × IsSpent p × Appends old new (report p))
-Shows status desk old new = Unit {0}
+-- ---------------------------------------------------------------- whatever the bytes were
+
+-- what is written of a bundle or of a world, of which the command is not asked to tell from what bytes it came
+abbrev pub ShowsDone : Option Command → Status → Desk → (old new : Option (List ℕ)) → Type 0
+ShowsDone (Some Validate) Written desk old new = (desk ≡ Empty) × ((b : Accepted) × IsAccepted b × Appends old new (valid_text b))
+ShowsDone (Some (Simulate limit)) Written desk old new = OnDesk desk (λ p. (p.limit ≡ limit) × IsChosen p × IsDrained (now p) × Appends old new (report p))
+ShowsDone (Some (Simulate limit)) Spent desk old new = OnDesk desk (λ p. (p.limit ≡ limit) × IsChosen p × IsSpent p × Appends old new (report p))
+ShowsDone c status desk old new = ⊥
+
+-- The text that is written is the one of the answer. After a refusal, the usage line and a read fault the desk is empty, and
+-- after a read fault and want of memory nothing was written.
+abbrev pub Shows : Option Command → Status → Desk → (old new : Option (List ℕ)) → Type 0
+Shows c Written desk old new = ShowsDone c Written desk old new
+Shows c Spent desk old new = ShowsDone c Spent desk old new
+Shows c (Refused r) desk old new = (desk ≡ Empty) × Appends old new (refusal_text r)
+Shows c Usage desk old new = (desk ≡ Empty) × Appends old new usage_text
+Shows c ReadFault desk old new = (desk ≡ Empty) × Keeps old new
+Shows c NoMemory desk old new = Keeps old new
+Shows c WriteFault desk old new = Unit {0}
 
 -- Every checkpoint of the world on the desk, if there is one, belongs to one central run of its session, and so on.
 unfoldable pub HoldsSound : Desk → Type 0
 HoldsSound Empty = Unit {0}
 HoldsSound (Open w) = IsSound w
 
--- the answers that a simulation has
-abbrev pub IsOfWorld : Status → Type 0
-IsOfWorld Usage = ⊥
-IsOfWorld (Refused r) = ⊥
-IsOfWorld ReadFault = ⊥
-IsOfWorld _ = Unit {0}
+-- the answers that come once a bundle was read
+abbrev pub IsOfBundle : Status → Type 0
+IsOfBundle Usage = ⊥
+IsOfBundle ReadFault = ⊥
+IsOfBundle _ = Unit {0}
+
+-- L0 may come before the end
+abbrev pub EndsAfter : Refusal → Option (List ℕ) → Type 0
+EndsAfter (One (Reading L0) at) left = Unit {0}
+EndsAfter _ left = IsAtEnd left
 
 -- with these answers the source was read to its end
 abbrev pub EndsRead : Status → Option (List ℕ) → Type 0
 EndsRead Written left = IsAtEnd left
 EndsRead Spent left = IsAtEnd left
-EndsRead (Refused L1) left = IsAtEnd left
-EndsRead (Refused L5) left = IsAtEnd left
+EndsRead (Refused r) left = EndsAfter r left
 EndsRead _ left = Unit {0}
 
 -- what a reader of a bundle from a source answers, unless a read fails or memory runs out
-abbrev pub Takes : Result Opening TakeError → Result Opening Rule → Type 0
-Takes (Ok o) r = r ≡ Ok o
-Takes (Err (take.Refused rule)) r = r ≡ Err rule
-Takes (Err _) r = Unit {0}
+abbrev pub Takes : Result Accepted TakeError → Result Accepted Refusal → Type 0
+Takes (Ok b) due = due ≡ Ok b
+Takes (Err (take.Refused r)) due = due ≡ Err r
+Takes (Err _) due = Unit {0}
 
 -- with these answers it has read the source to its end
-abbrev pub TakesAll : Result Opening TakeError → Option (List ℕ) → Type 0
-TakesAll (Ok o) left = IsAtEnd left
-TakesAll (Err (take.Refused L1)) left = IsAtEnd left
-TakesAll (Err (take.Refused L5)) left = IsAtEnd left
+abbrev pub TakesAll : Result Accepted TakeError → Option (List ℕ) → Type 0
+TakesAll (Ok b) left = IsAtEnd left
+TakesAll (Err (take.Refused r)) left = EndsAfter r left
 TakesAll (Err _) left = Unit {0}
 
 -- the text was taken, or a front of it and the answer is a fault

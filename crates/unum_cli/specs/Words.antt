@@ -1,9 +1,14 @@
 -- The words of the command line.
-use Rattle.std.specs.Prelude.{ℕ, ◌+◌, ◌-◌, ◌*◌, ◌&&◌, nat_le, List, [], ◌∷◌, take, drop, length, codes, Option, Some, None, if◌then◌else◌}
+use Rattle.std.specs.Prelude.{ℕ, ◌+◌, ◌-◌, ◌*◌, ◌≤◌, ◌&&◌, nat_le, List, [], ◌∷◌, take, drop, length, codes, Option, Some, None, option_map, if◌then◌else◌}
 use Rattle.std.specs.Str.{bytes_eq}
+use Rattle.unum_cli.specs.declared.commands.Command.{Command}
+use Rattle.unum_cli.specs.declared.commands.Command.TheVariants.{Validate, Simulate}
+
+abbrev pub Word : Type 0
+Word = List ℕ
 
 -- the number that decimal digits spell after those that gave n
-unfoldable pub number_from : ℕ → List ℕ → Option ℕ
+unfoldable pub number_from : ℕ → Word → Option ℕ
 number_from n [] = Some n
 number_from n (d ∷ ds) = if nat_le 48 d && nat_le d 57 then number_from (n * 10 + (d - 48)) ds else None
 
@@ -12,25 +17,54 @@ within low high None = None
 within low high (Some n) = if nat_le low n && nat_le n high then Some n else None
 
 -- one to eight digits, and a number from 1 to 10,000,000
-unfoldable pub limit_of : List ℕ → Option ℕ
+unfoldable pub limit_of : Word → Option ℕ
 limit_of w = if nat_le 1 (length w) && nat_le (length w) 8 then within 1 10000000 (number_from 0 w) else None
 
 -- the value of an option in the spelling with a sign
-abbrev pub value_of : List ℕ → Option (List ℕ)
+abbrev pub value_of : Word → Option Word
 value_of w = if bytes_eq (take 8 w) (codes "--limit=") then Some (drop 8 w) else None
 
-abbrev pub joined_limit : Option (List ℕ) → Option ℕ
+abbrev pub joined_limit : Option Word → Option ℕ
 joined_limit None = None
 joined_limit (Some n) = limit_of n
 
--- the options: none, or a limit in one of its two spellings
-abbrev pub options : List (List ℕ) → Option ℕ
-options [] = Some 1000000
-options (w ∷ []) = joined_limit (value_of w)
-options (w ∷ n ∷ []) = if bytes_eq w (codes "--limit") then limit_of n else None
-options _ = None
+-- the limit of the options: none is given, or one in one of its two spellings
+abbrev pub limit_in : List Word → Option ℕ
+limit_in [] = Some 1000000
+limit_in (w ∷ []) = joined_limit (value_of w)
+limit_in (w ∷ n ∷ []) = if bytes_eq w (codes "--limit") then limit_of n else None
+limit_in _ = None
 
--- the limit of `simulate`, where the words are that command
-unfoldable pub command : List (List ℕ) → Option ℕ
+-- ---------------------------------------------------------------- the table of commands
+
+-- a command's word, and what it is with its options
+pub record Row : Type 0 where
+  pub word : Word
+  pub with_options : List Word → Option Command
+
+abbrev pub without_options : Command → List Word → Option Command
+without_options c [] = Some c
+without_options c (w ∷ ws) = None
+
+abbrev pub with_limit : (ℕ → Command) → List Word → Option Command
+with_limit c ws = option_map c (limit_in ws)
+
+-- all commands
+abbrev pub commands : List Row
+commands =
+    record { word = codes "validate"; with_options = without_options Validate }
+    ∷ record { word = codes "simulate"; with_options = with_limit Simulate } ∷ []
+
+abbrev pub command_in : List Row → Word → List Word → Option Command
+command_in [] w ws = None
+command_in (r ∷ rs) w ws = if bytes_eq w r.word then r.with_options ws else command_in rs w ws
+
+-- the command that the words are
+unfoldable pub command : List Word → Option Command
 command [] = None
-command (w ∷ ws) = if bytes_eq w (codes "simulate") then options ws else None
+command (w ∷ ws) = command_in commands w ws
+
+-- a limit is at most 10,000,000
+abbrev pub IsLimited : Command → Type 0
+IsLimited Validate = Unit {0}
+IsLimited (Simulate limit) = limit ≤ 10000000

@@ -1,23 +1,13 @@
+use bundle_read::Refusal;
 use unum_world::World;
 
-/// A rule that bytes break. Its place is empty.
-#[derive(Clone, Copy, Debug, PartialEq, Eq)]
-pub enum Rule {
-    /// There are more than 4,194,304 bytes.
-    L0,
-    /// They are no JSON.
-    L1,
-    /// They have another form than the one that is built.
-    L5,
-}
-
 /// How a call ended.
-#[derive(Clone, Copy, Debug, PartialEq, Eq)]
+#[derive(Debug, Drop)]
 pub enum Status {
     /// All is done and written.
     Written,
-    /// The bytes break this rule.
-    Refused(Rule),
+    /// The bytes are refused.
+    Refused(Refusal),
     /// The words are none of the commands.
     Usage,
     /// A read failed.

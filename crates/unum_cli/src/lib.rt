@@ -2,17 +2,21 @@
 #![tactic(auto)]
 
 mod answer;
-mod bundle;
-mod forms;
-mod parts;
-mod plans;
+mod commands;
+mod not_yet;
+mod refusals;
 pub mod session_report;
+mod shown;
 mod status;
 mod taking;
 mod top;
-mod values;
+mod validate;
 mod words;
 
-pub use answer::{Desk, Rule, Status};
-pub use bundle::{BundleError, read_bundle};
+pub use answer::{Desk, Status};
+pub use bundle_read::{
+    BRule, BrokenPair, Bundle, BundleError, Refusal, RuleCode, open_bundle, read_bundle,
+};
+pub use not_yet::runnable;
+pub use shown::{worked_report, worked_words};
 pub use top::tool;

@@ -9,7 +9,8 @@ use std::alloc::Global;
 use unum_json::{NoMemory, Outcome, Text, outcome_json, to_text};
 use unum_world::{Entry, SessionState, Totals, World};
 
-fn push_number(out: &mut String, label: &str, number: u64) -> Result<(), NoMemory>
+/// Adds a label and a number.
+pub(crate) fn push_number(out: &mut String, label: &str, number: u64) -> Result<(), NoMemory>
     ensures { OnOk result (string_bytes out.new ≡ string_bytes out.old ++ label.now ++ decimal number) }
 {
     out.push_str(label)?;

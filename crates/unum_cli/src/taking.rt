@@ -1,10 +1,10 @@
-use crate::answer::Rule;
+use bundle_read::Refusal;
 
 /// Why no bundle was taken from a source.
-#[derive(Clone, Copy, Debug)]
+#[derive(Debug, Drop)]
 pub enum TakeError {
-    /// The bytes break this rule.
-    Refused(Rule),
+    /// The bytes are refused.
+    Refused(Refusal),
     /// A read failed.
     Fault,
     NoMemory,

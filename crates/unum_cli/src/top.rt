@@ -1,15 +1,22 @@
-ghost use Rattle.std.specs.Prelude.{◌≡◌, ◌⊎◌, ◌≤◌, None, IfSome, IfOk};
+ghost use Rattle.std.specs.Prelude.{◌≡◌, ◌⊎◌, ◌≤◌, [], Err, None, IfSome, IfOk};
 ghost use Rattle.unum_io.specs.Causes.{Rose};
 ghost use Rattle.unum_world.specs.Seen.{Fits};
-ghost use Rattle.unum_cli.specs.Words.{command as command_of};
-ghost use Rattle.unum_cli.specs.Bundles.{judged};
-ghost use Rattle.unum_cli.specs.Tool.{due, refusal_text, Answers, AnswersWorld, AnswersUsage, AnswersRefusal, IsOfWorld, Takes, TakesAll, Shows, HoldsSound, EndsRead, Wrote};
+ghost use Rattle.bundle_read.specs.Accepted.{IsAccepted};
+ghost use Rattle.bundle_read.specs.Judged.{judged};
+ghost use Rattle.unum_cli.specs.Valid.{valid_text};
+ghost use Rattle.unum_cli.specs.Words.{command as command_of, IsLimited};
+ghost use Rattle.unum_cli.specs.Tool.{due, due_bundle, Answers, AnswersRefusal, AnswersText, AnswersUsage, AnswersWorld, IsOfBundle, IsWorldOf, OnDesk, Takes, TakesAll, Shows, HoldsSound, EndsRead, Wrote};
 
-use crate::answer::{Desk, Rule, Status};
-use crate::bundle::{BundleError, read_bundle};
+use crate::answer::{Desk, Status};
+use crate::commands::Command;
+use crate::not_yet::runnable;
+use crate::refusals::refusal_text;
 use crate::session_report::report;
 use crate::taking::TakeError;
+use crate::validate::valid_text;
 use crate::words::command;
+use asl_read::LRule;
+use bundle_read::{Bundle, BundleError, Refusal, RuleCode, read_bundle};
 use std::alloc::Global;
 use unum_io::{ReadAll, Sink, Source, read_all, write_all};
 use unum_json::{Items, Text};
@@ -20,16 +27,6 @@ const MAX_BYTES: u64 = 4_194_304;
 
 const USAGE: &str = "usage: unum validate | compile | ir | central | simulate | run | make\n";
 
-fn refusal(rule: Rule) -> &'static str
-    ensures { result.now ≡ refusal_text rule }
-{
-    match rule {
-        Rule::L0 => "refused L0 \"\"\n",
-        Rule::L1 => "refused L1 \"\"\n",
-        Rule::L5 => "refused L5 \"\"\n",
-    }
-}
-
 /// Writes the text of a status.
 fn finish<K: Sink>(out: &mut K, text: &str, status: Status) -> Status
     ensures wrote { Wrote (K.taken out.old) (K.taken out.new) text.now status result }
@@ -38,7 +35,10 @@ fn finish<K: Sink>(out: &mut K, text: &str, status: Status) -> Status
 {
     match write_all(out, text.as_bytes()) {
         Ok(()) => status,
-        Err(_) => Status::WriteFault,
+        Err(_) => {
+            drop(status);
+            Status::WriteFault
+        }
     }
 }
 
@@ -51,33 +51,61 @@ fn tell_usage<K: Sink>(out: &mut K) -> Status
     finish(out, USAGE, Status::Usage)
 }
 
-/// Refuses bytes by a rule.
-fn refuse<K: Sink>(out: &mut K, rule: Rule) -> Status
-    ensures told { (desk : Desk) → desk ≡ Desk.Empty → AnswersRefusal rule result desk (K.taken out.old) (K.taken out.new) }
-    ensures only { (result ≡ Status.Refused rule) ⊎ (result ≡ Status.WriteFault) }
+/// Tells a refusal.
+fn refuse<K: Sink>(alloc: Global, out: &mut K, refusal: Refusal) -> Status
+    ensures told { (desk : Desk) → desk ≡ Desk.Empty → AnswersRefusal refusal result desk (K.taken out.old) (K.taken out.new) }
+    ensures only { IsOfBundle result }
+    ensures later { K.faults out.old ≤ K.faults out.new }
     ensures cause { result ≡ Status.WriteFault → Rose (K.faults out.old) (K.faults out.new) }
 {
-    finish(out, refusal(rule), Status::Refused(rule))
+    let Ok(text) = refusal_text(alloc, &refusal) else {
+        drop(refusal);
+        return Status::NoMemory;
+    };
+    finish(out, text.as_str(), Status::Refused(refusal))
+}
+
+/// More bytes than a bundle has.
+fn too_long(alloc: Global) -> TakeError
+    ensures { result ≡ TakeError.Refused (Refusal.One (RuleCode.Reading LRule.L0) []) }
+{
+    TakeError::Refused(Refusal::One {
+        rule: RuleCode::Reading(LRule::L0),
+        at: Text::new(alloc),
+    })
 }
 
 /// Reads a bundle from a source, which is read to its end.
-fn take_bundle<S: Source>(alloc: Global, source: &mut S) -> Result<Opening, TakeError>
+fn take_bundle<S: Source>(alloc: Global, source: &mut S) -> Result<Bundle, TakeError>
     ensures told { IfSome (S.left source.old) (λ bytes. Takes result (judged bytes)) }
     ensures end { TakesAll result (S.left source.new) }
-    ensures fits { IfOk result (λ o. Fits o 10000000) }
+    ensures accepted { IfOk result IsAccepted }
     ensures fault { result ≡ Err TakeError.Fault → Rose (S.faults source.old) (S.faults source.new) }
 {
     let bytes = match read_all(alloc, source, MAX_BYTES) {
         Ok(bytes) => bytes,
-        Err(ReadAll::TooLong) => return Err(TakeError::Refused(Rule::L0)),
+        Err(ReadAll::TooLong) => return Err(too_long(alloc)),
         Err(ReadAll::Fault) => return Err(TakeError::Fault),
         Err(ReadAll::NoMemory) => return Err(TakeError::NoMemory),
     };
     match read_bundle(alloc, bytes.as_slice()) {
-        Ok(opening) => Ok(opening),
-        Err(BundleError::Refused(rule)) => Err(TakeError::Refused(rule)),
+        Ok(bundle) => Ok(bundle),
+        Err(BundleError::Refused(refusal)) => Err(TakeError::Refused(refusal)),
         Err(BundleError::NoMemory) => Err(TakeError::NoMemory),
     }
+}
+
+/// Tells how much is in a bundle.
+fn validate<K: Sink>(alloc: Global, bundle: &Bundle, out: &mut K) -> Status
+    ensures told { (desk : Desk) → desk ≡ Desk.Empty → AnswersText (valid_text bundle.now) result desk (K.taken out.old) (K.taken out.new) }
+    ensures only { IsOfBundle result }
+    ensures later { K.faults out.old ≤ K.faults out.new }
+    ensures cause { result ≡ Status.WriteFault → Rose (K.faults out.old) (K.faults out.new) }
+{
+    let Ok(text) = valid_text(alloc, bundle) else {
+        return Status::NoMemory;
+    };
+    finish(out, text.as_str(), Status::Written)
 }
 
 /// Leaves a world on the desk.
@@ -90,26 +118,15 @@ fn lay(desk: &mut Desk, world: World)
     *desk = Desk::Open(world);
 }
 
-/// Simulates an opening, and leaves its world on the desk.
-#[tactic(auto, using(crate::proofs::Due::empty_sound))]
-fn simulate<K: Sink>(
-    alloc: Global,
-    opening: Opening,
-    limit: u64,
-    out: &mut K,
-    desk: &mut Desk,
-) -> Status
-    requires empty { desk.old ≡ Desk.Empty }
-    requires fits { Fits opening limit }
-    ensures told { AnswersWorld opening limit result desk.new (K.taken out.old) (K.taken out.new) }
-    ensures only { IsOfWorld result }
+/// Settles a world and writes its report. The world is left on the desk, also where memory ran out on the way.
+fn settle_on<K: Sink>(alloc: Global, mut planned: Planned, out: &mut K, desk: &mut Desk) -> Status
+    ensures told { AnswersWorld planned.opening planned.limit result desk.new (K.taken out.old) (K.taken out.new) }
+    ensures laid { OnDesk desk.new (IsWorldOf planned.opening planned.limit) }
+    ensures only { IsOfBundle result }
     ensures sound { HoldsSound desk.new }
     ensures later { K.faults out.old ≤ K.faults out.new }
     ensures cause { result ≡ Status.WriteFault → Rose (K.faults out.old) (K.faults out.new) }
 {
-    let Ok(mut planned) = Planned::open(alloc, opening, limit) else {
-        return Status::NoMemory;
-    };
     let settled = planned.settle(alloc);
     let world = planned.into_world();
     let Ok(settled) = settled else {
@@ -127,12 +144,77 @@ fn simulate<K: Sink>(
     }
 }
 
-/// Carries out the words: `simulate`, with a limit from 1 to 10,000,000 as `--limit N` or `--limit=N`.
-///
-/// The bytes of the source are read to their end, and refused, or else their world is settled by the plan's chooser and
-/// its report is written. The desk is empty before, and afterwards it holds the world, unless the answer is Usage,
-/// Refused or ReadFault, or memory ran out before there was one.
+/// Simulates an opening, and leaves its world on the desk.
 #[tactic(auto, using(crate::proofs::Due::empty_sound))]
+fn simulate<K: Sink>(
+    alloc: Global,
+    opening: Opening,
+    limit: u64,
+    out: &mut K,
+    desk: &mut Desk,
+) -> Status
+    requires empty { desk.old ≡ Desk.Empty }
+    requires fits { Fits opening limit }
+    ensures told { AnswersWorld opening limit result desk.new (K.taken out.old) (K.taken out.new) }
+    ensures only { IsOfBundle result }
+    ensures sound { HoldsSound desk.new }
+    ensures later { K.faults out.old ≤ K.faults out.new }
+    ensures cause { result ≡ Status.WriteFault → Rose (K.faults out.old) (K.faults out.new) }
+{
+    match Planned::open(alloc, opening, limit) {
+        Ok(planned) => settle_on(alloc, planned, out, desk),
+        Err(_) => Status::NoMemory,
+    }
+}
+
+/// Simulates the world of a bundle, if it runs today.
+#[tactic(auto, using(crate::proofs::Due::empty_sound))]
+fn run<K: Sink>(alloc: Global, bundle: Bundle, limit: u64, out: &mut K, desk: &mut Desk) -> Status
+    requires empty { desk.old ≡ Desk.Empty }
+    requires limited { limit ≤ 10000000 }
+    ensures told { Answers (due_bundle (Command.Simulate limit) bundle) result desk.new (K.taken out.old) (K.taken out.new) }
+    ensures only { IsOfBundle result }
+    ensures sound { HoldsSound desk.new }
+    ensures later { K.faults out.old ≤ K.faults out.new }
+    ensures cause { result ≡ Status.WriteFault → Rose (K.faults out.old) (K.faults out.new) }
+{
+    match runnable(alloc, bundle) {
+        Ok(opening) => simulate(alloc, opening, limit, out, desk),
+        Err(BundleError::Refused(refusal)) => refuse(alloc, out, refusal),
+        Err(BundleError::NoMemory) => Status::NoMemory,
+    }
+}
+
+/// Carries out a command with a bundle.
+#[tactic(auto, using(crate::proofs::Due::empty_sound))]
+fn carry_out<K: Sink>(
+    alloc: Global,
+    command: Command,
+    bundle: Bundle,
+    out: &mut K,
+    desk: &mut Desk,
+) -> Status
+    requires empty { desk.old ≡ Desk.Empty }
+    requires limited { IsLimited command }
+    ensures told { Answers (due_bundle command bundle) result desk.new (K.taken out.old) (K.taken out.new) }
+    ensures only { IsOfBundle result }
+    ensures sound { HoldsSound desk.new }
+    ensures later { K.faults out.old ≤ K.faults out.new }
+    ensures cause { result ≡ Status.WriteFault → Rose (K.faults out.old) (K.faults out.new) }
+{
+    match command {
+        Command::Validate => validate(alloc, &bundle, out),
+        Command::Simulate { limit } => run(alloc, bundle, limit, out, desk),
+    }
+}
+
+/// Carries out the words: `validate`, or `simulate`, with a limit from 1 to 10,000,000 as `--limit N` or `--limit=N`.
+///
+/// The bytes of the source are read to their end, and refused, or else the command is carried out with their bundle:
+/// `validate` writes how much is in it, and `simulate` settles its world by the plan's chooser and writes the report. The desk
+/// is empty before, and afterwards it holds the world of `simulate`, unless the answer is Usage, Refused or ReadFault, or
+/// memory ran out before there was one.
+#[tactic(auto, using(crate::proofs::Due::empty_sound, crate::proofs::Due::bundle_shows, crate::proofs::Due::ends_read, crate::proofs::Due::refusal_ends, crate::proofs::Due::refusal_shows, crate::proofs::Due::usage_shows))]
 pub fn tool<S: Source, K: Sink>(
     alloc: Global,
     words: &Items<Text>,
@@ -159,16 +241,16 @@ pub fn tool<S: Source, K: Sink>(
     // acknowledged has ended.
     ensures sound { HoldsSound desk.new }
 
-    // Whatever the bytes were, the text is that of the world on the desk, and the source was read to its end.
-    ensures shown { Shows result desk.new (K.taken out.old) (K.taken out.new) }
+    // Whatever the bytes were, the text is that of the answer, and the source was read to its end.
+    ensures shown { Shows (command_of words.now) result desk.new (K.taken out.old) (K.taken out.new) }
     ensures read { EndsRead result (S.left source.new) }
 {
-    let Some(limit) = command(words) else {
+    let Some(command) = command(words) else {
         return tell_usage(out);
     };
     match take_bundle(alloc, source) {
-        Ok(opening) => simulate(alloc, opening, limit, out, desk),
-        Err(TakeError::Refused(rule)) => refuse(out, rule),
+        Ok(bundle) => carry_out(alloc, command, bundle, out, desk),
+        Err(TakeError::Refused(refusal)) => refuse(alloc, out, refusal),
         Err(TakeError::Fault) => Status::ReadFault,
         Err(TakeError::NoMemory) => Status::NoMemory,
     }

@@ -1,6 +1,7 @@
-ghost use Rattle.std.specs.Prelude.{◌≡◌, ◌≤◌, ◌<◌, ◌^◌, ◌*◌, length, IfSome};
-ghost use Rattle.unum_cli.specs.Words.{number_from, limit_of, options, command};
+ghost use Rattle.std.specs.Prelude.{◌≡◌, ◌≤◌, ◌<◌, ◌^◌, ◌*◌, length, option_map, IfSome};
+ghost use Rattle.unum_cli.specs.Words.{number_from, limit_of, limit_in, command, with_limit, without_options, IsLimited};
 
+use crate::commands::Command;
 use unum_json::{Items, Text};
 
 /// The limit where none is given.
@@ -40,8 +41,8 @@ fn limit_of(word: &[u8]) -> Option<u64>
 }
 
 /// The limit of the options: 1,000,000, or the one in `--limit N` or `--limit=N`.
-fn options(words: &[Text]) -> Option<u64>
-    ensures value { result ≡ options words.now }
+fn limit_in(words: &[Text]) -> Option<u64>
+    ensures value { result ≡ limit_in words.now }
     ensures within { IfSome result (λ n. n ≤ 10000000) }
 {
     match words {
@@ -58,17 +59,41 @@ fn options(words: &[Text]) -> Option<u64>
     }
 }
 
-/// The limit of `simulate`, where the words are that command.
+/// `validate`, which has no options.
+fn validate(words: &[Text]) -> Option<Command>
+    ensures value { result ≡ without_options Command.Validate words.now }
+    ensures limited { IfSome result IsLimited }
+{
+    match words {
+        [] => Some(Command::Validate),
+        _ => None,
+    }
+}
+
+/// `simulate` with its limit.
+fn simulate(words: &[Text]) -> Option<Command>
+    ensures value { result ≡ with_limit Command.Simulate words.now }
+    ensures limited { IfSome result IsLimited }
+{
+    match limit_in(words) {
+        Some(limit) => Some(Command::Simulate { limit }),
+        None => None,
+    }
+}
+
+/// The command that the words are.
 #[tactic(auto, unfolding(crate::specs::Words::command))]
-pub fn command(words: &Items<Text>) -> Option<u64>
+pub fn command(words: &Items<Text>) -> Option<Command>
     ensures value { result ≡ command words.now }
-    ensures within { IfSome result (λ n. n ≤ 10000000) }
+    ensures limited { IfSome result IsLimited }
 {
     match words.as_slice() {
         [] => None,
-        [word, rest @ ..] => {
-            if word.as_bytes() == b"simulate".as_slice() {
-                options(rest)
+        [word, options @ ..] => {
+            if word.as_bytes() == b"validate".as_slice() {
+                validate(options)
+            } else if word.as_bytes() == b"simulate".as_slice() {
+                simulate(options)
             } else {
                 None
             }

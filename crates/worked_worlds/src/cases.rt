@@ -1,12 +1,13 @@
 //! One case.
 
-use crate::bundle::{Machines, bundle, machines, opening};
+use crate::bundle::{bundle, opening};
 use crate::fault::Fault;
 use crate::listed::{Group, event, group_of};
 use crate::report::{Counts, report};
-use plain_world::{ApplyError, Doing, Event, Op, World};
+use bundle_read::open_bundle;
+use plain_world::{ApplyError, Doing, Event, Op, Opening, World};
 use std::alloc::{AllocError, Global};
-use unum_json::{Json, NoMemory};
+use unum_json::NoMemory;
 
 /// Whether the event is a Mark.
 fn is_mark(alloc: Global, world: &World<'_>, e: Event) -> Result<bool, Fault> {
@@ -89,28 +90,28 @@ fn run_events(alloc: Global, world: &mut World<'_>, listed: &str) -> Result<Stri
     report(alloc, world, &counts)
 }
 
-fn run_machines(
-    alloc: Global,
-    bundle: &Json,
-    machines: &Machines,
-    listed: &str,
-) -> Result<String, Fault> {
-    let mut world = World::open(alloc, opening(alloc, bundle, machines)?)?;
+/// The report of a world that begins so, after these events.
+fn run_world(alloc: Global, opening: Opening<'_>, listed: &str) -> Result<String, Fault> {
+    let mut world = World::open(alloc, opening)?;
     let told = run_events(alloc, &mut world, listed);
     drop(world);
     told
 }
 
-fn run_bundle(alloc: Global, bundle: &Json, listed: &str) -> Result<String, Fault> {
-    let machines = machines(alloc, bundle)?;
-    let told = run_machines(alloc, bundle, &machines, listed);
+fn run(alloc: Global, given: &str, listed: &str) -> Result<String, Fault> {
+    let unum_world::Opening {
+        machines,
+        table,
+        sessions,
+        plan,
+    } = open_bundle(bundle(alloc, given)?);
+    drop(plan);
+    let told = match opening(alloc, table, sessions, &machines) {
+        Ok(opening) => run_world(alloc, opening, listed),
+        Err(fault) => Err(fault),
+    };
     drop(machines);
     told
-}
-
-fn run(alloc: Global, given: &str, listed: &str) -> Result<String, Fault> {
-    let bundle = bundle(alloc, given)?;
-    run_bundle(alloc, &bundle, listed)
 }
 
 /// The report of a case, or why it was not run.

@@ -7,15 +7,10 @@
 #![tactic(auto)]
 
 mod bundle;
-mod carry;
 mod cases;
 mod fault;
-mod flows;
 mod listed;
-mod machines;
 mod report;
-mod rules;
-mod values;
 
 use cases::worked;
 use std::io::{self, BufRead, BufReader};

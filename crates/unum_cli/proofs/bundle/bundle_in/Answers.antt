@@ -1,5 +1,0 @@
-use Rattle.unum_json.proofs.Rising.{rising_one}
-use Rattle.unum_cli.proofs.bundle.bundle_in.Goals as goal
-
-pub push-requires : goal.push-requires
-push-requires c = rising_one c.new-machines.result _ c.new-machines.ensures
