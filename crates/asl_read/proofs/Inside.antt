@@ -1,30 +1,27 @@
 -- What stands at a key of an object is read as the part of it that it is, and is less deep.
-use Rattle.std.proofs.Common.{◌≡◌, ℕ, ◌+◌, ◌<◌, ◌≤◌, suc, max, List, [], ◌∷◌, ◌++◌, map, drop, get_or, length, append_assoc, zero, Option, Some, None, codes, refl, sym, ap, ◌∙◌, subst, arith, string_bytes, String, Global, Vec, nat_cmp, Less, Equal, Greater}
+use Rattle.std.proofs.Common.{◌≡◌, ℕ, ◌<◌, ◌≤◌, suc, max, List, [], ◌∷◌, ◌++◌, map, get_or, length, append_assoc, zero, Option, Some, None, codes, refl, sym, ap, ◌∙◌, subst, arith, string_bytes, String, Global, Vec, nat_cmp, Less, Equal, Greater}
 use Rattle.std.proofs.lemmas.List.{map-append}
 use Rattle.std.specs.List.{AllByRecursion}
 use Rattle.std.specs.List.Sorted.{IsStrictlySortedBy}
 use Rattle.std.specs.Map.{keys_of}
 use Rattle.std.specs.String.{string_cmp}
 use Rattle.unum_json.specs.Keys.{IsRising}
-use Rattle.std.specs.Prelude.{option_map, unwrap_or}
+use Rattle.std.specs.Prelude.{option_map}
 use Rattle.std.specs.Ordering.{match_ordering}
 use Rattle.std.specs.declared.cmp.Ordering.{Ordering}
 use Rattle.std.specs.Cmp.Lexicographic.{slice_cmp}
-use Rattle.serde_json.specs.Data.{Data, null, boolean, number, string, array, object, Items, no_items, item, Members, no_members, member, depth, items_depth, members_depth}
+use Rattle.serde_json.specs.Data.{Data, null, boolean, number, string, array, object, Members, no_members, member, depth, items_depth, members_depth}
 use Rattle.serde_json.specs.Find.{get, get_member}
 use Rattle.serde_json.specs.View.{view, items_view, members_view}
 use Rattle.serde_json.specs.declared.value.Value.{Value, Array, Object}
 use Rattle.serde_json.proofs.Views.{view-Array, view-Object}
 use Rattle.std.specs.BTreeMap.{BTreeMap}
 use Rattle.choice_rules.specs.declared.rule.Rule.{Rule}
-use Rattle.choice_rules.specs.declared.rule.Rule as rules
 use Rattle.asl_model.specs.declared.machine.Block.{Block}
 use Rattle.asl_model.specs.declared.machine.State.{State}
 use Rattle.asl_read.specs.Objects.{Key}
 use Rattle.asl_read.specs.Found.{find}
-use Rattle.asl_read.specs.Choices.{operators}
-use Rattle.asl_read.specs.Parts.{path_in}
-use Rattle.asl_read.specs.Rules.{Ruled, ruled, ruled_items, ruled_members, rules_at, rule_at, rule_by, rule_of, rules_of, one_or_more, op_in}
+use Rattle.asl_read.specs.Rules.{Ruled, ruled, ruled_items, ruled_members, rules_at, rule_at, rule_by, rule_of, rules_of}
 use Rattle.asl_read.specs.Machines.{Blocked, blocked, blocked_items, blocked_members, states_at, blocks_at, block_at, block_by, state_by, type_of, or_else, block_of, blocks_of, state_of, states_of}
 
 -- ---------------------------------------------------------------- rules

@@ -1,5 +1,5 @@
 -- The items of an array, as the code has them.
-use Rattle.std.proofs.Common.{◌≡◌, ℕ, ◌==◌, List, [], ◌∷◌, length, map, Some, refl, ap}
+use Rattle.std.proofs.Common.{◌≡◌, ◌==◌, List, [], ◌∷◌, length, map, Some, refl, ap}
 use Rattle.std.proofs.Math.Dec.{eqb-suc-zero}
 use Rattle.serde_json.specs.Data.{array}
 use Rattle.serde_json.specs.View.{view, items_view}

@@ -1,10 +1,9 @@
 -- The operators of choice rules, and which rules are malformed.
 -- Amazon States Language, "Choice State".
-use Rattle.std.specs.Prelude.{ℕ, ◌==◌, Bool, true, false, not, ◌&&◌, ◌||◌, if◌then◌else◌, suc, List, [], ◌∷◌, codes, Option, Some, None, is_some}
+use Rattle.std.specs.Prelude.{ℕ, ◌==◌, Bool, true, false, not, ◌&&◌, ◌||◌, if◌then◌else◌, suc, List, [], ◌∷◌, codes, Option, Some, is_some}
 use Rattle.std.specs.Str.{bytes_eq}
-use Rattle.serde_json.specs.Data.{Data, array, string, Items, no_items}
+use Rattle.serde_json.specs.Data.{Data, array, string, no_items}
 use Rattle.serde_json.specs.Find.{get}
-use Rattle.choice_rules.specs.declared.comparison.Rel.{Rel}
 use Rattle.choice_rules.specs.declared.comparison.Rel.TheVariants.{Equal, Less, LessEqual, Greater, GreaterEqual}
 use Rattle.choice_rules.specs.Patterns.{pattern_of}
 use Rattle.asl_read.specs.Objects.{Key, has, has_any, keys}

@@ -1,6 +1,6 @@
 -- Small machines, and what their reading comes to.
-use Rattle.std.specs.Prelude.{◌≡◌, ℕ, List, [], ◌∷◌, Option, Some, None, codes, Float}
-use Rattle.serde_json.specs.Data.{Data, null, number, string, object, unsigned, float, Members, no_members, member}
+use Rattle.std.specs.Prelude.{◌≡◌, ℕ, List, [], ◌∷◌, Some, None, codes, Float}
+use Rattle.serde_json.specs.Data.{Data, null, number, string, object, float, Members, no_members, member}
 use Rattle.unum_json.specs.Whole.{Place}
 use Rattle.asl_model.specs.declared.machine.State.TheVariants as state
 use Rattle.asl_read.specs.Objects.{Key}
@@ -52,6 +52,6 @@ NullIsNoPath =
     × (machine_of succeed ≡ record {
       root = record {
         start = codes "A";
-        states = (codes "A", state.Succeed (record { input = Some []; parameters = None; selector = None; result = Some []; output = None })) ∷ []
-      }
+        states = (codes "A", state.Succeed (record { input = Some []; parameters = None; selector = None; result = Some []; output = None })) ∷ [];
+      };
     })

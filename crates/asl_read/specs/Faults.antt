@@ -1,17 +1,16 @@
 -- Which rules of reading a value breaks, in the order of reading: the first of them is the refusal.
-use Rattle.std.specs.Prelude.{ℕ, ◌+◌, Bool, true, false, if◌then◌else◌, List, [], ◌∷◌, ◌++◌, codes, Option, Some, None}
+use Rattle.std.specs.Prelude.{ℕ, ◌+◌, true, false, if◌then◌else◌, List, [], ◌++◌, codes, Option, Some, None}
 use Rattle.std.specs.Borrow.{Bor}
 use Rattle.std.specs.Str.{bytes_eq}
 use Rattle.serde_json.specs.Data.{Data, null, boolean, number, string, array, object, Items, no_items, item, Members, no_members, member}
 use Rattle.serde_json.specs.Find.{get, as_str}
 use Rattle.unum_json.specs.Keys.{find_key}
-use Rattle.unum_json.specs.Whole.{Place, index_step, key_step}
+use Rattle.unum_json.specs.Whole.{index_step, key_step}
 use Rattle.asl_read.specs.Objects.{Key, Broken, here, at_key, under, key_faults, missing_faults}
 use Rattle.asl_read.specs.Names.{left_out}
 use Rattle.asl_read.specs.Choices.{is_malformed}
 use Rattle.asl_read.specs.Tables.{table, others, how_in, state_types}
 use Rattle.asl_read.specs.Leaves.{leaf_faults}
-use Rattle.asl_read.specs.declared.fault.LRule.{LRule}
 use Rattle.asl_read.specs.declared.fault.LRule.TheVariants.{L2, L3, L4, L5, L7}
 use Rattle.asl_read.specs.declared.table.How.{How}
 use Rattle.asl_read.specs.declared.table.How.TheVariants as how

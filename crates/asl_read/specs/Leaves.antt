@@ -1,8 +1,8 @@
 -- Which rules a value breaks that is read as a whole.
 -- Amazon States Language, "Paths", "Reference Paths" and "Payload Template".
-use Rattle.std.specs.Prelude.{ℕ, Bool, true, false, List, [], ◌∷◌, codes, Option, Some, None, is_some, Result, Ok, Err}
+use Rattle.std.specs.Prelude.{ℕ, Bool, true, false, List, [], ◌∷◌, codes, Some, None, is_some, Result, Ok, Err}
 use Rattle.std.specs.Str.{bytes_eq}
-use Rattle.serde_json.specs.Data.{Data, null}
+use Rattle.serde_json.specs.Data.{Data}
 use Rattle.serde_json.specs.Find.{as_null, as_bool, as_str, as_number, as_object, as_i64}
 use Rattle.unum_json.specs.Whole.{Place, of_data}
 use Rattle.unum_json.specs.declared.value.Json.{Json}

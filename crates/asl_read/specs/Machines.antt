@@ -1,6 +1,6 @@
 -- The machine that a value spells.
 -- Amazon States Language, "Structure of a State Machine", "State Types", "Parallel State" and "Map State".
-use Rattle.std.specs.Prelude.{ℕ, List, [], ◌∷◌, map, codes, Option, Some, None, option_map, unwrap_or}
+use Rattle.std.specs.Prelude.{List, [], ◌∷◌, map, codes, Option, Some, None, option_map, unwrap_or}
 use Rattle.serde_json.specs.Data.{Data, null, boolean, number, string, array, object, Items, no_items, item, Members, no_members, member}
 use Rattle.serde_json.specs.Find.{get}
 use Rattle.unum_json.specs.Keys.{find_key}

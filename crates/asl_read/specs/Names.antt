@@ -1,6 +1,6 @@
 -- The fields that the profile leaves out by name.
 -- Amazon States Language, "Task State", "Map State", "Fail State", "Choice State" and "Data Transformation".
-use Rattle.std.specs.Prelude.{ℕ, nat_eq, Bool, true, false, ◌||◌, List, [], ◌∷◌, codes}
+use Rattle.std.specs.Prelude.{nat_eq, Bool, true, false, ◌||◌, List, [], ◌∷◌, codes}
 use Rattle.std.specs.List.{starts_with}
 use Rattle.std.specs.Str.{bytes_eq}
 use Rattle.asl_read.specs.Objects.{Key}

@@ -4,7 +4,7 @@
 -- breaks a rule.
 -- Amazon States Language, "Paths", "Reference Paths", "Payload Template", "Input and Output Processing" and "Errors".
 use Rattle.std.specs.Prelude.{ℕ, Bool, true, false, List, [], ◌∷◌, map, codes, Option, Some, None, option_map, option_and_then, unwrap_or, Result, Ok, Err, ℤ, pos, negsuc, nat_le, if◌then◌else◌}
-use Rattle.serde_json.specs.Data.{Data, null, boolean, number, string, array, object, Items, no_items, item}
+use Rattle.serde_json.specs.Data.{Data, null, array, Items, no_items, item}
 use Rattle.serde_json.specs.Find.{get, as_bool, as_str, as_number, as_i64}
 use Rattle.unum_json.specs.Whole.{Place, of_data}
 use Rattle.unum_json.specs.declared.value.Json.{Json}
@@ -19,7 +19,7 @@ use Rattle.asl_model.specs.declared.machine.After.{After}
 use Rattle.asl_model.specs.declared.machine.Retrier.{Retrier}
 use Rattle.asl_model.specs.declared.machine.Catcher.{Catcher}
 use Rattle.asl_model.specs.declared.machine.Care.{Care}
-use Rattle.asl_read.specs.Objects.{Key, has}
+use Rattle.asl_read.specs.Objects.{Key}
 
 -- ---------------------------------------------------------------- one value
 

@@ -1,22 +1,20 @@
 -- The rule of a Choice that a value spells.
 -- Amazon States Language, "Choice State".
-use Rattle.std.specs.Prelude.{ℕ, Bool, true, false, List, [], ◌∷◌, map, codes, Option, Some, None, option_map, unwrap_or, if◌then◌else◌}
+use Rattle.std.specs.Prelude.{ℕ, true, List, [], ◌∷◌, map, codes, Option, Some, None, option_map, unwrap_or}
 use Rattle.std.specs.Borrow.{Bor}
 use Rattle.serde_json.specs.Data.{Data, null, boolean, number, string, array, object, Items, no_items, item, Members, no_members, member}
 use Rattle.serde_json.specs.Find.{get}
 use Rattle.unum_json.specs.declared.value.Json as json
 use Rattle.asl_model.specs.declared.machine.TopRule.{TopRule}
-use Rattle.choice_rules.specs.Compared.{Compared}
 use Rattle.choice_rules.specs.Patterns.{pattern_of}
 use Rattle.choice_rules.specs.declared.comparison.OpKind.TheVariants as kind
 use Rattle.choice_rules.specs.declared.comparison.Rel.TheVariants.{Equal}
 use Rattle.choice_rules.specs.declared.comparison.Operand.TheVariants.{Constant, Found}
-use Rattle.choice_rules.specs.declared.pattern.Pattern.{Pattern}
 use Rattle.choice_rules.specs.declared.rule.Op.{Op}
 use Rattle.choice_rules.specs.declared.rule.Op.TheVariants as ops
 use Rattle.choice_rules.specs.declared.rule.Rule.{Rule}
 use Rattle.choice_rules.specs.declared.rule.Rule as rules
-use Rattle.asl_read.specs.Objects.{Key, has}
+use Rattle.asl_read.specs.Objects.{Key}
 use Rattle.asl_read.specs.Choices.{Operators, operators}
 use Rattle.asl_read.specs.Parts.{text_of, truth_of, whole_of, path_at, path_in, text_in}
 use Rattle.asl_read.specs.Found.{find}

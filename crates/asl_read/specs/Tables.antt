@@ -2,7 +2,7 @@
 -- Amazon States Language, "Structure of a State Machine", the table of fields in "State Types", "Errors" and "Choice State".
 use Rattle.std.specs.Prelude.{List, [], ◌∷◌, ◌++◌, map, codes}
 use Rattle.asl_read.specs.Objects.{Key, Row, required_unless, not_beside, must, may, how_at}
-use Rattle.asl_read.specs.Choices.{Operators, operators, joins}
+use Rattle.asl_read.specs.Choices.{operators, joins}
 use Rattle.asl_read.specs.declared.objects.LeftOut.{LeftOut}
 use Rattle.asl_read.specs.declared.objects.LeftOut.TheVariants as left
 use Rattle.asl_read.specs.declared.table.How.{How}

@@ -15,7 +15,6 @@ mod rows;
 mod rules;
 mod shapes;
 mod shown;
-mod state_rows;
 mod table;
 mod values;
 

@@ -2,506 +2,292 @@
 
 ghost use Rattle.std.specs.Prelude.{◌≡◌, map};
 ghost use Rattle.asl_read.specs.Objects.{row_of};
-ghost use Rattle.asl_read.specs.Tables.{table};
+ghost use Rattle.asl_read.specs.Tables.{table, state_fields};
 
 use crate::objects::{Need, Row};
-use crate::state_rows::state_rows;
-use crate::table::{How, Kind};
+use crate::table::{How, Kind, StateType};
+
+macro_rules! row {
+    ($key:expr, $need:expr, $how:expr) => {
+        Row {
+            key: $key,
+            need: $need,
+            how: $how,
+        }
+    };
+}
+
+/// A field that has to be there.
+macro_rules! must {
+    ($key:expr, $how:expr) => {
+        row!($key, Need::Required, $how)
+    };
+}
+
+/// A field that may be there.
+macro_rules! may {
+    ($key:expr, $how:expr) => {
+        row!($key, Need::Optional, $how)
+    };
+}
+
+/// The fields of a Task.
+static TASK: [Row<How>; 15] = [
+    may!("Type", How::Unread),
+    may!("Comment", How::Unread),
+    may!("QueryLanguage", How::Language),
+    must!("Resource", How::Text),
+    may!("InputPath", How::PathOrNull),
+    may!("OutputPath", How::PathOrNull),
+    may!("Parameters", How::Template),
+    may!("ResultSelector", How::Template),
+    may!("ResultPath", How::PathOrNull),
+    may!("Next", How::Text),
+    may!("End", How::Truth),
+    may!("Retry", How::Each(Kind::Retrier)),
+    may!("Catch", How::Each(Kind::Catcher)),
+    may!("TimeoutSeconds", How::Unread),
+    may!("HeartbeatSeconds", How::Unread),
+];
+
+/// The fields of a Pass.
+static PASS: [Row<How>; 10] = [
+    may!("Type", How::Unread),
+    may!("Comment", How::Unread),
+    may!("QueryLanguage", How::Language),
+    may!("Result", How::Data),
+    may!("InputPath", How::PathOrNull),
+    may!("OutputPath", How::PathOrNull),
+    may!("Parameters", How::Template),
+    may!("ResultPath", How::PathOrNull),
+    may!("Next", How::Text),
+    may!("End", How::Truth),
+];
+
+/// The fields of a Choice.
+static CHOICE: [Row<How>; 7] = [
+    may!("Type", How::Unread),
+    may!("Comment", How::Unread),
+    may!("QueryLanguage", How::Language),
+    must!("Choices", How::Each(Kind::TopRule)),
+    may!("Default", How::Text),
+    may!("InputPath", How::PathOrNull),
+    may!("OutputPath", How::PathOrNull),
+];
+
+/// The fields of a Succeed.
+static SUCCEED: [Row<How>; 5] = [
+    may!("Type", How::Unread),
+    may!("Comment", How::Unread),
+    may!("QueryLanguage", How::Language),
+    may!("InputPath", How::PathOrNull),
+    may!("OutputPath", How::PathOrNull),
+];
+
+/// The fields of a Fail.
+static FAIL: [Row<How>; 5] = [
+    may!("Type", How::Unread),
+    may!("Comment", How::Unread),
+    may!("QueryLanguage", How::Language),
+    may!("Error", How::Text),
+    may!("Cause", How::Text),
+];
+
+/// The fields of a Parallel.
+static PARALLEL: [Row<How>; 13] = [
+    may!("Type", How::Unread),
+    may!("Comment", How::Unread),
+    may!("QueryLanguage", How::Language),
+    must!("Branches", How::Each(Kind::Branch)),
+    may!("InputPath", How::PathOrNull),
+    may!("OutputPath", How::PathOrNull),
+    may!("Parameters", How::Template),
+    may!("ResultSelector", How::Template),
+    may!("ResultPath", How::PathOrNull),
+    may!("Next", How::Text),
+    may!("End", How::Truth),
+    may!("Retry", How::Each(Kind::Retrier)),
+    may!("Catch", How::Each(Kind::Catcher)),
+];
+
+/// The fields of a Map.
+static MAP: [Row<How>; 17] = [
+    may!("Type", How::Unread),
+    may!("Comment", How::Unread),
+    may!("QueryLanguage", How::Language),
+    row!(
+        "ItemProcessor",
+        Need::RequiredUnless(&["Iterator"]),
+        How::Object(Kind::ItemBody)
+    ),
+    row!(
+        "Iterator",
+        Need::NotBeside("ItemProcessor"),
+        How::Object(Kind::ItemBody)
+    ),
+    may!("ItemsPath", How::Path),
+    may!("ItemSelector", How::ItemTemplate),
+    row!(
+        "Parameters",
+        Need::NotBeside("ItemSelector"),
+        How::ItemTemplate
+    ),
+    may!("MaxConcurrency", How::Whole),
+    may!("InputPath", How::PathOrNull),
+    may!("OutputPath", How::PathOrNull),
+    may!("ResultSelector", How::Template),
+    may!("ResultPath", How::PathOrNull),
+    may!("Next", How::Text),
+    may!("End", How::Truth),
+    may!("Retry", How::Each(Kind::Retrier)),
+    may!("Catch", How::Each(Kind::Catcher)),
+];
 
 /// The fields of a machine.
 static MACHINE: [Row<How>; 6] = [
-    Row {
-        key: "StartAt",
-        need: Need::Required,
-        how: How::Text,
-    },
-    Row {
-        key: "States",
-        need: Need::Required,
-        how: How::States,
-    },
-    Row {
-        key: "Comment",
-        need: Need::Optional,
-        how: How::Unread,
-    },
-    Row {
-        key: "QueryLanguage",
-        need: Need::Optional,
-        how: How::Language,
-    },
-    Row {
-        key: "TimeoutSeconds",
-        need: Need::Optional,
-        how: How::Unread,
-    },
-    Row {
-        key: "Version",
-        need: Need::Optional,
-        how: How::Unread,
-    },
+    must!("StartAt", How::Text),
+    must!("States", How::States),
+    may!("Comment", How::Unread),
+    may!("QueryLanguage", How::Language),
+    may!("TimeoutSeconds", How::Unread),
+    may!("Version", How::Unread),
 ];
 
 /// The fields of a branch.
 static BRANCH: [Row<How>; 3] = [
-    Row {
-        key: "StartAt",
-        need: Need::Required,
-        how: How::Text,
-    },
-    Row {
-        key: "States",
-        need: Need::Required,
-        how: How::States,
-    },
-    Row {
-        key: "Comment",
-        need: Need::Optional,
-        how: How::Unread,
-    },
+    must!("StartAt", How::Text),
+    must!("States", How::States),
+    may!("Comment", How::Unread),
 ];
 
 /// The fields of an ItemProcessor or an Iterator.
 static ITEM_BODY: [Row<How>; 4] = [
-    Row {
-        key: "StartAt",
-        need: Need::Required,
-        how: How::Text,
-    },
-    Row {
-        key: "States",
-        need: Need::Required,
-        how: How::States,
-    },
-    Row {
-        key: "Comment",
-        need: Need::Optional,
-        how: How::Unread,
-    },
-    Row {
-        key: "ProcessorConfig",
-        need: Need::Optional,
-        how: How::Object(Kind::ProcessorConfig),
-    },
+    must!("StartAt", How::Text),
+    must!("States", How::States),
+    may!("Comment", How::Unread),
+    may!("ProcessorConfig", How::Object(Kind::ProcessorConfig)),
 ];
 
 /// The fields of a ProcessorConfig.
-static PROCESSOR_CONFIG: [Row<How>; 1] = [Row {
-    key: "Mode",
-    need: Need::Optional,
-    how: How::Mode,
-}];
+static PROCESSOR_CONFIG: [Row<How>; 1] = [may!("Mode", How::Mode)];
 
 /// The fields of a retrier.
 static RETRIER: [Row<How>; 7] = [
-    Row {
-        key: "ErrorEquals",
-        need: Need::Required,
-        how: How::Texts,
-    },
-    Row {
-        key: "MaxAttempts",
-        need: Need::Optional,
-        how: How::Whole,
-    },
-    Row {
-        key: "IntervalSeconds",
-        need: Need::Optional,
-        how: How::Unread,
-    },
-    Row {
-        key: "BackoffRate",
-        need: Need::Optional,
-        how: How::Unread,
-    },
-    Row {
-        key: "MaxDelaySeconds",
-        need: Need::Optional,
-        how: How::Unread,
-    },
-    Row {
-        key: "JitterStrategy",
-        need: Need::Optional,
-        how: How::Unread,
-    },
-    Row {
-        key: "Comment",
-        need: Need::Optional,
-        how: How::Unread,
-    },
+    must!("ErrorEquals", How::Texts),
+    may!("MaxAttempts", How::Whole),
+    may!("IntervalSeconds", How::Unread),
+    may!("BackoffRate", How::Unread),
+    may!("MaxDelaySeconds", How::Unread),
+    may!("JitterStrategy", How::Unread),
+    may!("Comment", How::Unread),
 ];
 
 /// The fields of a catcher.
 static CATCHER: [Row<How>; 4] = [
-    Row {
-        key: "ErrorEquals",
-        need: Need::Required,
-        how: How::Texts,
-    },
-    Row {
-        key: "Next",
-        need: Need::Required,
-        how: How::Text,
-    },
-    Row {
-        key: "ResultPath",
-        need: Need::Optional,
-        how: How::PathOrNull,
-    },
-    Row {
-        key: "Comment",
-        need: Need::Optional,
-        how: How::Unread,
-    },
+    must!("ErrorEquals", How::Texts),
+    must!("Next", How::Text),
+    may!("ResultPath", How::PathOrNull),
+    may!("Comment", How::Unread),
 ];
 
 /// The fields of a rule of Choices.
 static TOP_RULE: [Row<How>; 34] = [
-    Row {
-        key: "Next",
-        need: Need::Required,
-        how: How::Text,
-    },
-    Row {
-        key: "And",
-        need: Need::Optional,
-        how: How::Each(Kind::InnerRule),
-    },
-    Row {
-        key: "Or",
-        need: Need::Optional,
-        how: How::Each(Kind::InnerRule),
-    },
-    Row {
-        key: "Not",
-        need: Need::Optional,
-        how: How::Object(Kind::InnerRule),
-    },
-    Row {
-        key: "Variable",
-        need: Need::RequiredUnless(&["And", "Or", "Not"]),
-        how: How::Path,
-    },
-    Row {
-        key: "Comment",
-        need: Need::Optional,
-        how: How::Unread,
-    },
-    Row {
-        key: "StringEquals",
-        need: Need::Optional,
-        how: How::Text,
-    },
-    Row {
-        key: "StringLessThan",
-        need: Need::Optional,
-        how: How::Text,
-    },
-    Row {
-        key: "StringLessThanEquals",
-        need: Need::Optional,
-        how: How::Text,
-    },
-    Row {
-        key: "StringGreaterThan",
-        need: Need::Optional,
-        how: How::Text,
-    },
-    Row {
-        key: "StringGreaterThanEquals",
-        need: Need::Optional,
-        how: How::Text,
-    },
-    Row {
-        key: "StringEqualsPath",
-        need: Need::Optional,
-        how: How::Path,
-    },
-    Row {
-        key: "StringLessThanPath",
-        need: Need::Optional,
-        how: How::Path,
-    },
-    Row {
-        key: "StringLessThanEqualsPath",
-        need: Need::Optional,
-        how: How::Path,
-    },
-    Row {
-        key: "StringGreaterThanPath",
-        need: Need::Optional,
-        how: How::Path,
-    },
-    Row {
-        key: "StringGreaterThanEqualsPath",
-        need: Need::Optional,
-        how: How::Path,
-    },
-    Row {
-        key: "NumericEquals",
-        need: Need::Optional,
-        how: How::Whole,
-    },
-    Row {
-        key: "NumericLessThan",
-        need: Need::Optional,
-        how: How::Whole,
-    },
-    Row {
-        key: "NumericLessThanEquals",
-        need: Need::Optional,
-        how: How::Whole,
-    },
-    Row {
-        key: "NumericGreaterThan",
-        need: Need::Optional,
-        how: How::Whole,
-    },
-    Row {
-        key: "NumericGreaterThanEquals",
-        need: Need::Optional,
-        how: How::Whole,
-    },
-    Row {
-        key: "NumericEqualsPath",
-        need: Need::Optional,
-        how: How::Path,
-    },
-    Row {
-        key: "NumericLessThanPath",
-        need: Need::Optional,
-        how: How::Path,
-    },
-    Row {
-        key: "NumericLessThanEqualsPath",
-        need: Need::Optional,
-        how: How::Path,
-    },
-    Row {
-        key: "NumericGreaterThanPath",
-        need: Need::Optional,
-        how: How::Path,
-    },
-    Row {
-        key: "NumericGreaterThanEqualsPath",
-        need: Need::Optional,
-        how: How::Path,
-    },
-    Row {
-        key: "BooleanEquals",
-        need: Need::Optional,
-        how: How::Truth,
-    },
-    Row {
-        key: "BooleanEqualsPath",
-        need: Need::Optional,
-        how: How::Path,
-    },
-    Row {
-        key: "StringMatches",
-        need: Need::Optional,
-        how: How::Text,
-    },
-    Row {
-        key: "IsNull",
-        need: Need::Optional,
-        how: How::Truth,
-    },
-    Row {
-        key: "IsPresent",
-        need: Need::Optional,
-        how: How::Truth,
-    },
-    Row {
-        key: "IsNumeric",
-        need: Need::Optional,
-        how: How::Truth,
-    },
-    Row {
-        key: "IsString",
-        need: Need::Optional,
-        how: How::Truth,
-    },
-    Row {
-        key: "IsBoolean",
-        need: Need::Optional,
-        how: How::Truth,
-    },
+    must!("Next", How::Text),
+    may!("And", How::Each(Kind::InnerRule)),
+    may!("Or", How::Each(Kind::InnerRule)),
+    may!("Not", How::Object(Kind::InnerRule)),
+    row!(
+        "Variable",
+        Need::RequiredUnless(&["And", "Or", "Not"]),
+        How::Path
+    ),
+    may!("Comment", How::Unread),
+    may!("StringEquals", How::Text),
+    may!("StringLessThan", How::Text),
+    may!("StringLessThanEquals", How::Text),
+    may!("StringGreaterThan", How::Text),
+    may!("StringGreaterThanEquals", How::Text),
+    may!("StringEqualsPath", How::Path),
+    may!("StringLessThanPath", How::Path),
+    may!("StringLessThanEqualsPath", How::Path),
+    may!("StringGreaterThanPath", How::Path),
+    may!("StringGreaterThanEqualsPath", How::Path),
+    may!("NumericEquals", How::Whole),
+    may!("NumericLessThan", How::Whole),
+    may!("NumericLessThanEquals", How::Whole),
+    may!("NumericGreaterThan", How::Whole),
+    may!("NumericGreaterThanEquals", How::Whole),
+    may!("NumericEqualsPath", How::Path),
+    may!("NumericLessThanPath", How::Path),
+    may!("NumericLessThanEqualsPath", How::Path),
+    may!("NumericGreaterThanPath", How::Path),
+    may!("NumericGreaterThanEqualsPath", How::Path),
+    may!("BooleanEquals", How::Truth),
+    may!("BooleanEqualsPath", How::Path),
+    may!("StringMatches", How::Text),
+    may!("IsNull", How::Truth),
+    may!("IsPresent", How::Truth),
+    may!("IsNumeric", How::Truth),
+    may!("IsString", How::Truth),
+    may!("IsBoolean", How::Truth),
 ];
 
 /// The fields of a rule in And, Or or Not.
 static INNER_RULE: [Row<How>; 34] = [
-    Row {
-        key: "Next",
-        need: Need::Optional,
-        how: How::Text,
-    },
-    Row {
-        key: "And",
-        need: Need::Optional,
-        how: How::Each(Kind::InnerRule),
-    },
-    Row {
-        key: "Or",
-        need: Need::Optional,
-        how: How::Each(Kind::InnerRule),
-    },
-    Row {
-        key: "Not",
-        need: Need::Optional,
-        how: How::Object(Kind::InnerRule),
-    },
-    Row {
-        key: "Variable",
-        need: Need::RequiredUnless(&["And", "Or", "Not"]),
-        how: How::Path,
-    },
-    Row {
-        key: "Comment",
-        need: Need::Optional,
-        how: How::Unread,
-    },
-    Row {
-        key: "StringEquals",
-        need: Need::Optional,
-        how: How::Text,
-    },
-    Row {
-        key: "StringLessThan",
-        need: Need::Optional,
-        how: How::Text,
-    },
-    Row {
-        key: "StringLessThanEquals",
-        need: Need::Optional,
-        how: How::Text,
-    },
-    Row {
-        key: "StringGreaterThan",
-        need: Need::Optional,
-        how: How::Text,
-    },
-    Row {
-        key: "StringGreaterThanEquals",
-        need: Need::Optional,
-        how: How::Text,
-    },
-    Row {
-        key: "StringEqualsPath",
-        need: Need::Optional,
-        how: How::Path,
-    },
-    Row {
-        key: "StringLessThanPath",
-        need: Need::Optional,
-        how: How::Path,
-    },
-    Row {
-        key: "StringLessThanEqualsPath",
-        need: Need::Optional,
-        how: How::Path,
-    },
-    Row {
-        key: "StringGreaterThanPath",
-        need: Need::Optional,
-        how: How::Path,
-    },
-    Row {
-        key: "StringGreaterThanEqualsPath",
-        need: Need::Optional,
-        how: How::Path,
-    },
-    Row {
-        key: "NumericEquals",
-        need: Need::Optional,
-        how: How::Whole,
-    },
-    Row {
-        key: "NumericLessThan",
-        need: Need::Optional,
-        how: How::Whole,
-    },
-    Row {
-        key: "NumericLessThanEquals",
-        need: Need::Optional,
-        how: How::Whole,
-    },
-    Row {
-        key: "NumericGreaterThan",
-        need: Need::Optional,
-        how: How::Whole,
-    },
-    Row {
-        key: "NumericGreaterThanEquals",
-        need: Need::Optional,
-        how: How::Whole,
-    },
-    Row {
-        key: "NumericEqualsPath",
-        need: Need::Optional,
-        how: How::Path,
-    },
-    Row {
-        key: "NumericLessThanPath",
-        need: Need::Optional,
-        how: How::Path,
-    },
-    Row {
-        key: "NumericLessThanEqualsPath",
-        need: Need::Optional,
-        how: How::Path,
-    },
-    Row {
-        key: "NumericGreaterThanPath",
-        need: Need::Optional,
-        how: How::Path,
-    },
-    Row {
-        key: "NumericGreaterThanEqualsPath",
-        need: Need::Optional,
-        how: How::Path,
-    },
-    Row {
-        key: "BooleanEquals",
-        need: Need::Optional,
-        how: How::Truth,
-    },
-    Row {
-        key: "BooleanEqualsPath",
-        need: Need::Optional,
-        how: How::Path,
-    },
-    Row {
-        key: "StringMatches",
-        need: Need::Optional,
-        how: How::Text,
-    },
-    Row {
-        key: "IsNull",
-        need: Need::Optional,
-        how: How::Truth,
-    },
-    Row {
-        key: "IsPresent",
-        need: Need::Optional,
-        how: How::Truth,
-    },
-    Row {
-        key: "IsNumeric",
-        need: Need::Optional,
-        how: How::Truth,
-    },
-    Row {
-        key: "IsString",
-        need: Need::Optional,
-        how: How::Truth,
-    },
-    Row {
-        key: "IsBoolean",
-        need: Need::Optional,
-        how: How::Truth,
-    },
+    may!("Next", How::Text),
+    may!("And", How::Each(Kind::InnerRule)),
+    may!("Or", How::Each(Kind::InnerRule)),
+    may!("Not", How::Object(Kind::InnerRule)),
+    row!(
+        "Variable",
+        Need::RequiredUnless(&["And", "Or", "Not"]),
+        How::Path
+    ),
+    may!("Comment", How::Unread),
+    may!("StringEquals", How::Text),
+    may!("StringLessThan", How::Text),
+    may!("StringLessThanEquals", How::Text),
+    may!("StringGreaterThan", How::Text),
+    may!("StringGreaterThanEquals", How::Text),
+    may!("StringEqualsPath", How::Path),
+    may!("StringLessThanPath", How::Path),
+    may!("StringLessThanEqualsPath", How::Path),
+    may!("StringGreaterThanPath", How::Path),
+    may!("StringGreaterThanEqualsPath", How::Path),
+    may!("NumericEquals", How::Whole),
+    may!("NumericLessThan", How::Whole),
+    may!("NumericLessThanEquals", How::Whole),
+    may!("NumericGreaterThan", How::Whole),
+    may!("NumericGreaterThanEquals", How::Whole),
+    may!("NumericEqualsPath", How::Path),
+    may!("NumericLessThanPath", How::Path),
+    may!("NumericLessThanEqualsPath", How::Path),
+    may!("NumericGreaterThanPath", How::Path),
+    may!("NumericGreaterThanEqualsPath", How::Path),
+    may!("BooleanEquals", How::Truth),
+    may!("BooleanEqualsPath", How::Path),
+    may!("StringMatches", How::Text),
+    may!("IsNull", How::Truth),
+    may!("IsPresent", How::Truth),
+    may!("IsNumeric", How::Truth),
+    may!("IsString", How::Truth),
+    may!("IsBoolean", How::Truth),
 ];
+
+/// The fields of a state of a type.
+fn state_rows(kind: StateType) -> &'static [Row<How>]
+    ensures { map row_of result.now ≡ state_fields kind }
+{
+    match kind {
+        StateType::Task => &TASK,
+        StateType::Pass => &PASS,
+        StateType::Choice => &CHOICE,
+        StateType::Succeed => &SUCCEED,
+        StateType::Fail => &FAIL,
+        StateType::Parallel => &PARALLEL,
+        StateType::Map => &MAP,
+    }
+}
 
 /// The fields of a kind of object.
 pub(crate) fn rows(kind: Kind) -> &'static [Row<How>]
