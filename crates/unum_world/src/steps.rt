@@ -86,11 +86,9 @@ fn add_won(journal: &mut Vec<Entry>, wins: bool, entry: Option<Entry>)
         None => (),
         Some(entry) => {
             if wins {
-                if journal.push(entry).is_err() {
-                    unreachable!();
-                }
+                add(journal, entry);
             } else {
-                drop(Some(entry));
+                drop(entry);
             }
         }
     }
