@@ -9,14 +9,21 @@ pub fn word(text: &str) -> (&str, &str) {
     text.split_once(' ').unwrap_or((text, ""))
 }
 
+/// The value that bytes spell.
+pub fn json(alloc: Global, bytes: &[u8]) -> Result<Json, Refused> {
+    let value = read(alloc, bytes)?;
+    let json = to_json(alloc, &value);
+    drop(value);
+    Ok(json?)
+}
+
 /// The cells that stand in a text.
 pub fn cells_in(alloc: Global, text: &str) -> Result<Items<Json>, Refused> {
     let text = format!(in alloc; "[{text}]")?;
-    let Ok(value) = read(alloc, text.as_bytes()) else {
-        return Err(Refused::NoCase);
-    };
-    match to_json(alloc, &value)? {
-        Json::Arr(cells) => Ok(cells),
+    let cells = json(alloc, text.as_bytes());
+    drop(text);
+    match cells {
+        Ok(Json::Arr(cells)) => Ok(cells),
         _ => Err(Refused::NoCase),
     }
 }
@@ -28,35 +35,52 @@ pub fn number(cell: &Json) -> Result<u32, Refused> {
     }
 }
 
-pub fn numbers(alloc: Global, cells: &[Json]) -> Result<Vec<u32>, Refused> {
-    let mut numbers = Vec::new(alloc);
+fn push_numbers(numbers: &mut Vec<u32>, cells: &[Json]) -> Result<(), Refused> {
     for cell in cells {
         numbers.push(number(cell)?)?;
     }
-    Ok(numbers)
+    Ok(())
 }
 
+pub fn numbers(alloc: Global, cells: &[Json]) -> Result<Vec<u32>, Refused> {
+    let mut numbers = Vec::new(alloc);
+    match push_numbers(&mut numbers, cells) {
+        Ok(()) => Ok(numbers),
+        Err(refused) => {
+            drop(numbers);
+            Err(refused)
+        }
+    }
+}
+
+/// Adds the bytes of a text, or the byte with a number.
 fn push_part(out: &mut Vec<u8>, part: &Json) -> Result<(), AllocError> {
     match part {
         Json::Str(text) => out.extend_from_slice(text.as_bytes()),
-        Json::Int(n) => Ok(out.push(u8::try_from(*n).unwrap_or(b'?'))?),
+        Json::Int(n) => out.extend_from_slice(&[u8::try_from(*n).unwrap_or(b'?')]),
         _ => Ok(()),
     }
 }
 
-fn joined(alloc: Global, parts: &[Json]) -> Result<Vec<u8>, AllocError> {
-    let mut out = Vec::new(alloc);
-    for part in parts {
-        push_part(&mut out, part)?;
+fn push_parts(out: &mut Vec<u8>, cell: &Json) -> Result<(), AllocError> {
+    let Json::Arr(parts) = cell else {
+        return push_part(out, cell);
+    };
+    for part in parts.as_slice() {
+        push_part(out, part)?;
     }
-    Ok(out)
+    Ok(())
 }
 
 /// The bytes of a cell.
 pub fn bytes(alloc: Global, cell: &Json) -> Result<Vec<u8>, AllocError> {
-    match cell {
-        Json::Arr(parts) => joined(alloc, parts.as_slice()),
-        _ => joined(alloc, std::slice::from_ref(cell)),
+    let mut out = Vec::new(alloc);
+    match push_parts(&mut out, cell) {
+        Ok(()) => Ok(out),
+        Err(refused) => {
+            drop(out);
+            Err(refused)
+        }
     }
 }
 
@@ -75,7 +99,16 @@ pub fn formatted(text: Result<String, AllocError>) -> Told {
     Ok(Text::from_string(text?))
 }
 
+/// The text in quotes.
+pub fn quoted(alloc: Global, word: &str, text: Text) -> Told {
+    let told = formatted(format!(in alloc; "{word}\"{}\"", text.as_str()));
+    drop(text);
+    told
+}
+
 /// The text of a value.
-pub fn shown(alloc: Global, value: &Json) -> Told {
-    Ok(to_text(alloc, value)?)
+pub fn shown(alloc: Global, value: Json) -> Told {
+    let text = to_text(alloc, &value);
+    drop(value);
+    Ok(text?)
 }

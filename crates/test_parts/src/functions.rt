@@ -1,15 +1,14 @@
 //! Cases of functions, which are `"echo"`, `"sum"`, `"ticket"`, `{"const":VALUE}`, `{"flaky":EVERY}` or `{"fail":[ERROR,CAUSE]}`:
 //!
-//! - `function call FUNCTION, VALUE, TICKET`: what it answers to an input;
-//! - `function answer FUNCTION, VALUE, TICKET`: so too by the caller, whose answer has the call with it;
+//! - `function answer FUNCTION, VALUE, TICKET`: what it answers to an input;
 //! - `function same FUNCTION, FUNCTION`: whether the first is the same as a copy of the second;
-//! - `function names [[NAME,FUNCTION],..]`: the names of the table in which these were set in turn;
-//! - `function find NAME, [[NAME,FUNCTION],..]`: the numbers of those that are the one that is found.
+//! - `function find NAME, [[NAME,FUNCTION],..]`: the names of the table in which these were set in turn, and the numbers of the
+//!   rows with the function that is found.
 
-use crate::cells::{formatted, number, said_same};
+use crate::cells::{number, said_same};
 use crate::refused::{Refused, Told};
 use crate::values::{failure, shown_outcome};
-use fn_table::{Answered, BuiltIns, FnKind, Functions, Table, call, copy_kind, same_kind};
+use fn_table::{Answered, BuiltIns, FnKind, Functions, Table, copy_kind, same_kind};
 use std::alloc::{AllocError, Global};
 use unum_json::{Json, Text, copy, copy_text, same};
 
@@ -42,40 +41,49 @@ fn function_in(alloc: Global, cell: &Json) -> Result<FnKind, Refused> {
     }
 }
 
-fn called(alloc: Global, kind: &Json, input: &Json, ticket: u32) -> Told {
-    let kind = function_in(alloc, kind)?;
-    let outcome = call(alloc, &kind, input, ticket)?;
-    shown_outcome(alloc, &outcome)
-}
-
 fn is_of_call(answered: &Answered, kind: &FnKind, input: &Json, ticket: u32) -> bool {
     same_kind(answered.kind(), kind) && same(answered.input(), input) && answered.ticket() == ticket
 }
 
-fn shown_if(alloc: Global, answered: &Answered, is_of_call: bool) -> Told {
-    if is_of_call {
+fn answer(alloc: Global, kind: &FnKind, input: &Json, ticket: u32) -> Told {
+    let caller = BuiltIns::new(alloc);
+    let answered = caller.answer(kind, input, ticket)?;
+    let told = if is_of_call(&answered, kind, input, ticket) {
         shown_outcome(alloc, answered.outcome())
     } else {
         Err(Refused::Other)
-    }
+    };
+    drop(answered);
+    told
 }
 
-fn answered(alloc: Global, kind: &Json, input: &Json, ticket: u32) -> Told {
+fn answered(alloc: Global, kind: &Json, input: &Json, ticket: &Json) -> Told {
+    let ticket = number(ticket)?;
     let kind = function_in(alloc, kind)?;
-    let answered = BuiltIns::new(alloc).answer(&kind, input, ticket)?;
-    let is_of_call = is_of_call(&answered, &kind, input, ticket);
-    shown_if(alloc, &answered, is_of_call)
+    let told = answer(alloc, &kind, input, ticket);
+    drop(kind);
+    told
 }
 
-fn copied(alloc: Global, cell: &Json) -> Result<FnKind, Refused> {
-    let kind = function_in(alloc, cell)?;
-    Ok(copy_kind(alloc, &kind)?)
+fn same_as_copy(alloc: Global, left: &FnKind, right: &FnKind) -> Told {
+    let copy = copy_kind(alloc, right)?;
+    let same = same_kind(left, &copy);
+    drop(copy);
+    said_same(alloc, same)
+}
+
+fn is_copy_of(alloc: Global, left: &FnKind, right: &Json) -> Told {
+    let right = function_in(alloc, right)?;
+    let told = same_as_copy(alloc, left, &right);
+    drop(right);
+    told
 }
 
 fn is_copy(alloc: Global, left: &Json, right: &Json) -> Told {
     let left = function_in(alloc, left)?;
-    let right = copied(alloc, right)?;
-    said_same(alloc, same_kind(&left, &right))
+    let told = is_copy_of(alloc, &left, right);
+    drop(left);
+    told
 }
 
 fn row(cell: &Json) -> Result<(&Text, &Json), Refused> {
@@ -90,67 +98,99 @@ fn row(cell: &Json) -> Result<(&Text, &Json), Refused> {
 
 fn insert(alloc: Global, table: &mut Table, cell: &Json) -> Result<(), Refused> {
     let (name, function) = row(cell)?;
-    let kind = function_in(alloc, function)?;
-    table.insert(copy_text(alloc, name)?, kind)?;
+    let name = copy_text(alloc, name)?;
+    match function_in(alloc, function) {
+        Ok(kind) => Ok(table.insert(name, kind)?),
+        Err(refused) => {
+            drop(name);
+            Err(refused)
+        }
+    }
+}
+
+fn insert_all(alloc: Global, table: &mut Table, rows: &[Json]) -> Result<(), Refused> {
+    for row in rows {
+        insert(alloc, table, row)?;
+    }
     Ok(())
 }
 
-fn table_in(alloc: Global, rows: &[Json]) -> Result<Table, Refused> {
-    let mut table = Table::new(alloc);
-    for row in rows {
-        insert(alloc, &mut table, row)?;
-    }
-    Ok(table)
-}
-
-fn names_of(alloc: Global, table: &Table) -> Result<String, AllocError> {
-    let mut out = String::new(alloc);
+fn push_names(out: &mut String, table: &Table) -> Result<(), AllocError> {
     write!(out, "{}:", table.rows().len())?;
     for (name, _kind) in table.rows() {
         write!(out, " {}", name.as_str())?;
     }
-    Ok(out)
-}
-
-fn names(alloc: Global, rows: &[Json]) -> Told {
-    let table = table_in(alloc, rows)?;
-    formatted(names_of(alloc, &table))
+    Ok(())
 }
 
 fn is_in_row(alloc: Global, found: &FnKind, cell: &Json) -> Result<bool, Refused> {
     let (_name, function) = row(cell)?;
     let kind = function_in(alloc, function)?;
-    Ok(same_kind(found, &kind))
+    let same = same_kind(found, &kind);
+    drop(kind);
+    Ok(same)
 }
 
-/// The numbers of the rows with this function.
-fn rows_of(alloc: Global, found: &FnKind, rows: &[Json]) -> Told {
-    let mut out = String::from_str(alloc, "row")?;
+/// Adds the numbers of the rows with this function.
+fn push_rows(
+    alloc: Global,
+    out: &mut String,
+    found: &FnKind,
+    rows: &[Json],
+) -> Result<(), Refused> {
+    out.push_str("; row")?;
     for (i, row) in rows.iter().enumerate() {
         if is_in_row(alloc, found, row)? {
             write!(out, " {i}")?;
         }
     }
-    Ok(Text::from_string(out))
+    Ok(())
 }
 
-fn find(alloc: Global, name: &[u8], rows: &[Json]) -> Told {
-    let table = table_in(alloc, rows)?;
+fn find(
+    alloc: Global,
+    out: &mut String,
+    table: &Table,
+    name: &[u8],
+    rows: &[Json],
+) -> Result<(), Refused> {
+    push_names(out, table)?;
     match table.find(name) {
-        Some(found) => rows_of(alloc, found, rows),
-        None => Err(Refused::Nothing),
+        Some(found) => push_rows(alloc, out, found, rows),
+        None => Ok(out.push_str("; nothing")?),
+    }
+}
+
+fn find_in(alloc: Global, out: &mut String, name: &[u8], rows: &[Json]) -> Result<(), Refused> {
+    let mut table = Table::new(alloc);
+    let told = match insert_all(alloc, &mut table, rows) {
+        Ok(()) => find(alloc, out, &table, name, rows),
+        Err(refused) => Err(refused),
+    };
+    drop(table);
+    told
+}
+
+fn found(alloc: Global, name: &[u8], rows: &[Json]) -> Told {
+    let mut out = String::new(alloc);
+    let written = find_in(alloc, &mut out, name, rows);
+    let text = Text::from_string(out);
+    match written {
+        Ok(()) => Ok(text),
+        Err(refused) => {
+            drop(text);
+            Err(refused)
+        }
     }
 }
 
 /// What a case of functions comes to.
 pub fn function(alloc: Global, verb: &str, cells: &[Json]) -> Told {
     match (verb, cells) {
-        ("call", [kind, input, ticket]) => called(alloc, kind, input, number(ticket)?),
-        ("answer", [kind, input, ticket]) => answered(alloc, kind, input, number(ticket)?),
+        ("answer", [kind, input, ticket]) => answered(alloc, kind, input, ticket),
         ("same", [left, right]) => is_copy(alloc, left, right),
-        ("names", [Json::Arr(rows)]) => names(alloc, rows.as_slice()),
         ("find", [Json::Str(name), Json::Arr(rows)]) => {
-            find(alloc, name.as_bytes(), rows.as_slice())
+            found(alloc, name.as_bytes(), rows.as_slice())
         }
         _ => Err(Refused::NoCase),
     }

@@ -7,7 +7,7 @@
 use crate::cells::{formatted, number, numbers};
 use crate::refused::{Refused, Told};
 use std::alloc::{AllocError, Global};
-use unum_json::{Fields, Items, Json, Text, copy_text};
+use unum_json::{Fields, Items, Json, NoMemory, Text, copy_text};
 
 fn insert(alloc: Global, fields: &mut Fields<u32>, pair: &Json) -> Result<(), Refused> {
     let Json::Arr(pair) = pair else {
@@ -17,46 +17,62 @@ fn insert(alloc: Global, fields: &mut Fields<u32>, pair: &Json) -> Result<(), Re
         return Err(Refused::NoCase);
     };
     let value = number(value)?;
-    fields.insert(copy_text(alloc, key)?, value)?;
+    let key = copy_text(alloc, key)?;
+    Ok(fields.insert(key, value)?)
+}
+
+fn insert_all(alloc: Global, fields: &mut Fields<u32>, pairs: &[Json]) -> Result<(), Refused> {
+    for pair in pairs {
+        insert(alloc, fields, pair)?;
+    }
     Ok(())
 }
 
-fn fields_in(alloc: Global, pairs: &[Json]) -> Result<Fields<u32>, Refused> {
-    let mut fields = Fields::new(alloc);
-    for pair in pairs {
-        insert(alloc, &mut fields, pair)?;
+fn push_pairs(out: &mut String, pairs: &[(Text, u32)]) -> Result<(), AllocError> {
+    for (key, value) in pairs {
+        write!(out, "{}={value} ", key.as_str())?;
     }
-    Ok(fields)
+    Ok(())
 }
 
-fn listed(alloc: Global, all: &[(Text, u32)]) -> Result<String, AllocError> {
-    let mut out = String::new(alloc);
-    for (key, value) in all {
-        write!(out, " {}={value}", key.as_str())?;
-    }
-    Ok(out)
-}
-
-fn fields(alloc: Global, pairs: &[Json], key: &str) -> Told {
-    let fields = fields_in(alloc, pairs)?;
+fn listed(out: &mut String, fields: Fields<u32>, key: &str) -> Result<(), AllocError> {
     let found = fields.get(key.as_bytes()).copied();
     let count = fields.len();
     let empty = fields.is_empty();
-    let all = listed(alloc, fields.into_vec().as_slice())?;
-    formatted(format!(in alloc; "{found:?} of {count}, empty {empty}:{all}"))
+    let pairs = fields.into_vec();
+    let pushed = push_pairs(out, pairs.as_slice());
+    drop(pairs);
+    pushed?;
+    write!(out, "{found:?} of {count}, empty {empty}")
 }
 
-fn items_in(alloc: Global, first: &[Json], more: &[Json]) -> Result<Items<u32>, Refused> {
-    let first = numbers(alloc, first)?;
-    let more = numbers(alloc, more)?;
-    let mut items = Items::from_slice(alloc, first.as_slice())?;
-    items.append(Items::from_slice(alloc, more.as_slice())?)?;
-    Ok(items)
+fn fields(alloc: Global, pairs: &[Json], key: &str) -> Told {
+    let mut fields = Fields::new(alloc);
+    let inserted = insert_all(alloc, &mut fields, pairs);
+    let mut out = String::new(alloc);
+    let written = listed(&mut out, fields, key);
+    let text = Text::from_string(out);
+    match (inserted, written) {
+        (Ok(()), Ok(())) => Ok(text),
+        _ => {
+            drop(text);
+            Err(Refused::NoCase)
+        }
+    }
 }
 
-/// What comes of items that are two or more, but for the last.
+fn items_in(alloc: Global, cells: &[Json]) -> Result<Items<u32>, Refused> {
+    let numbers = numbers(alloc, cells)?;
+    let items = Items::from_slice(alloc, numbers.as_slice());
+    drop(numbers);
+    Ok(items?)
+}
+
+/// What comes of items that are two or more but for the last.
 fn changed(alloc: Global, mut items: Items<u32>, put: u32) -> Told {
+    let last = items.pop();
     if items.len() < 2 {
+        drop(items);
         return Err(Refused::NoCase);
     }
     items.set(0, put);
@@ -66,17 +82,33 @@ fn changed(alloc: Global, mut items: Items<u32>, put: u32) -> Told {
     let second = items.remove(1);
     let empty = items.is_empty();
     let left = items.into_vec();
-    formatted(format!(in alloc;
-        "first {first:?} of {count}, past {past:?}, removed {second}, empty {empty}, left {left:?}"
-    ))
+    let told = formatted(format!(in alloc;
+        "popped {last:?}, first {first:?} of {count}, past {past:?}, removed {second}, empty {empty}, left {left:?}"
+    ));
+    drop(left);
+    told
+}
+
+fn appended(mut items: Items<u32>, more: Items<u32>) -> Result<Items<u32>, NoMemory> {
+    match items.append(more) {
+        Ok(()) => Ok(items),
+        Err(refused) => {
+            drop(items);
+            Err(refused)
+        }
+    }
 }
 
 fn items(alloc: Global, first: &[Json], more: &[Json], put: &Json) -> Told {
     let put = number(put)?;
-    let mut items = items_in(alloc, first, more)?;
-    let last = items.pop();
-    let rest = changed(alloc, items, put)?;
-    formatted(format!(in alloc; "popped {last:?}, {}", rest.as_str()))
+    let more = items_in(alloc, more)?;
+    match items_in(alloc, first) {
+        Ok(first) => changed(alloc, appended(first, more)?, put),
+        Err(refused) => {
+            drop(more);
+            Err(refused)
+        }
+    }
 }
 
 /// What a case of lists comes to.

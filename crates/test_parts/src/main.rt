@@ -50,12 +50,21 @@ fn case(alloc: Global, line: &str) -> Told {
         return values::compact(alloc, rest.as_bytes());
     }
     let cells = cells_in(alloc, cells)?;
-    tried(alloc, subject, verb, cells.as_slice())
+    let told = tried(alloc, subject, verb, cells.as_slice());
+    drop(cells);
+    told
 }
 
-fn print_case(rt: &impl Print, alloc: Global, line: &str) -> io::Result<()> {
+fn print_line(rt: &impl Print, alloc: Global, line: &str) -> io::Result<()> {
+    if line.is_empty() || line.starts_with('#') {
+        return println!(rt; "{line}");
+    }
     match case(alloc, line) {
-        Ok(text) => println!(rt; "{line} => {}", text.as_str()),
+        Ok(text) => {
+            let printed = println!(rt; "{line} => {}", text.as_str());
+            drop(text);
+            printed
+        }
         Err(Refused::Bad(at)) => println!(rt; "{line} => bad at {at}"),
         Err(refused) => println!(rt; "{line} => {}", refused.word()),
     }
@@ -65,11 +74,9 @@ fn main(rt: HostRuntime) -> io::Result<()> {
     let alloc = rt.alloc();
     for line in rt.lines(alloc) {
         let line = line?;
-        if line.is_empty() || line.as_str().starts_with('#') {
-            println!(rt; "{line}")?;
-        } else {
-            print_case(&rt, alloc, line.as_str())?;
-        }
+        let printed = print_line(&rt, alloc, line.as_str());
+        drop(line);
+        printed?;
     }
     Ok(())
 }

@@ -75,7 +75,14 @@ fn above(alloc: Global, cell: &Json) -> Told {
     let place = parent.place;
     let kind = Kind::Join;
     let fan = spell(alloc, &Name { place, kind })?;
-    formatted(format!(in alloc; "{} of {} at {}", parent.index, parent.count, fan.as_str()))
+    let told = formatted(format!(in alloc;
+        "{} of {} at {}",
+        parent.index,
+        parent.count,
+        fan.as_str()
+    ));
+    drop(fan);
+    told
 }
 
 fn scopes(alloc: Global, left: &Json, right: &Json) -> Told {

@@ -8,7 +8,7 @@ use unum_io::{Failed, ReadAll};
 use unum_json::{JsonError, NoMemory, Text, WholeError};
 
 /// A call was refused, or the line is no case.
-#[derive(Clone, Copy, Debug)]
+#[derive(Clone, Copy)]
 pub enum Refused {
     NoCase,
     NoMemory,

@@ -6,7 +6,7 @@
 //! - `pattern long PATTERN, LETTERS, TIMES`: how often it matches a text of so many letters, of so many times;
 //! - `pattern spell PATTERN`: its canonical text.
 
-use crate::cells::{formatted, number, said};
+use crate::cells::{formatted, number, quoted, said};
 use crate::paths::path_in;
 use crate::refused::{Refused, Told};
 use choice_rules::{
@@ -49,19 +49,26 @@ fn kind_of(name: &str) -> Option<(OpKind, &str)> {
     Some((OpKind::Truth, name.strip_prefix("Boolean")?))
 }
 
-fn compared(name: &str, operand: Operand) -> Result<Op, Refused> {
-    let (kind, rest) = kind_of(name).ok_or(Refused::NoCase)?;
-    let rel = relation(rest).ok_or(Refused::NoCase)?;
-    if !is_sound(kind, rel, &operand) {
-        return Err(Refused::NoCase);
+fn compared(kind: OpKind, rel: Rel, operand: Operand) -> Result<Op, Refused> {
+    if is_sound(kind, rel, &operand) {
+        Ok(Op::Compare(Comparison { kind, rel, operand }))
+    } else {
+        drop(operand);
+        Err(Refused::NoCase)
     }
-    Ok(Op::Compare(Comparison { kind, rel, operand }))
 }
 
 fn comparison(alloc: Global, name: &str, value: &Json) -> Result<Op, Refused> {
-    match name.strip_suffix("Path") {
-        Some(name) => compared(name, Operand::Found(path_in(alloc, value)?)),
-        None => compared(name, Operand::Constant(copy(alloc, value)?)),
+    let (kind, rest) = kind_of(name).ok_or(Refused::NoCase)?;
+    match rest.strip_suffix("Path") {
+        Some(rest) => {
+            let rel = relation(rest).ok_or(Refused::NoCase)?;
+            compared(kind, rel, Operand::Found(path_in(alloc, value)?))
+        }
+        None => {
+            let rel = relation(rest).ok_or(Refused::NoCase)?;
+            compared(kind, rel, Operand::Constant(copy(alloc, value)?))
+        }
     }
 }
 
@@ -90,27 +97,49 @@ fn test(alloc: Global, fields: &Fields<Json>) -> Result<Rule, Refused> {
     let [(name, value), (_variable, variable)] = fields.as_slice() else {
         return Err(Refused::NoCase);
     };
-    let op = operator(alloc, name.as_str(), value)?;
     let variable = path_in(alloc, variable)?;
-    Ok(Rule::Test { variable, op })
+    match operator(alloc, name.as_str(), value) {
+        Ok(op) => Ok(Rule::Test { variable, op }),
+        Err(refused) => {
+            drop(variable);
+            Err(refused)
+        }
+    }
 }
 
 #[cycle(rules)]
-fn rules(alloc: Global, depth: u32, cells: &[Json]) -> Result<Vec<Rule>, Refused> {
-    let mut rules = Vec::new(alloc);
+fn push_rules(
+    alloc: Global,
+    depth: u32,
+    rules: &mut Vec<Rule>,
+    cells: &[Json],
+) -> Result<(), Refused> {
     for cell in cells {
         rules.push(rule_in(alloc, depth, cell)?)?;
     }
-    Ok(rules)
+    Ok(())
+}
+
+#[cycle(rules)]
+fn rules_in(alloc: Global, depth: u32, cell: &Json) -> Result<Vec<Rule>, Refused> {
+    let Json::Arr(cells) = cell else {
+        return Err(Refused::NoCase);
+    };
+    let mut rules = Vec::new(alloc);
+    match push_rules(alloc, depth, &mut rules, cells.as_slice()) {
+        Ok(()) => Ok(rules),
+        Err(refused) => {
+            drop(rules);
+            Err(refused)
+        }
+    }
 }
 
 #[cycle(rules)]
 fn several(alloc: Global, depth: u32, cell: &Json) -> Result<NonEmpty<Rule>, Refused> {
-    let Json::Arr(cells) = cell else {
-        return Err(Refused::NoCase);
-    };
-    let rules = rules(alloc, depth, cells.as_slice())?;
+    let rules = rules_in(alloc, depth, cell)?;
     if rules.is_empty() {
+        drop(rules);
         return Err(Refused::NoCase);
     }
     Ok(NonEmpty::from_vec(rules))
@@ -137,38 +166,42 @@ fn rule_in(alloc: Global, depth: u32, cell: &Json) -> Result<Rule, Refused> {
     }
 }
 
-/// A copy of the rule that a value is.
-fn copied(alloc: Global, cell: &Json) -> Result<Rule, Refused> {
-    let rule = rule_in(alloc, DEPTH, cell)?;
-    Ok(copy_rule(alloc, &rule)?)
+fn match_copy(alloc: Global, rule: &Rule, value: &Json) -> Told {
+    let copy = copy_rule(alloc, rule)?;
+    let answer = matches(&copy, value);
+    drop(copy);
+    formatted(answer?.to_string(alloc))
 }
 
 fn matched(alloc: Global, rule: &Json, value: &Json) -> Told {
-    let rule = copied(alloc, rule)?;
-    let matched = matches(&rule, value)?;
-    formatted(matched.to_string(alloc))
+    let rule = rule_in(alloc, DEPTH, rule)?;
+    let told = match_copy(alloc, &rule, value);
+    drop(rule);
+    told
 }
 
-fn chosen(alloc: Global, rules: &[Rule], value: &Json) -> Told {
+fn choice(rules: &[Rule], value: &Json) -> Result<Option<u32>, Refused> {
     if rules.len() > 9 {
         return Err(Refused::NoCase);
     }
-    match choose(rules, value)? {
+    Ok(choose(rules, value)?)
+}
+
+fn chosen(alloc: Global, rules: &Json, value: &Json) -> Told {
+    let rules = rules_in(alloc, DEPTH, rules)?;
+    let choice = choice(rules.as_slice(), value);
+    drop(rules);
+    match choice? {
         Some(index) => formatted(index.to_string(alloc)),
         None => said(alloc, "none"),
     }
-}
-
-fn choice(alloc: Global, cells: &[Json], value: &Json) -> Told {
-    let rules = rules(alloc, DEPTH, cells)?;
-    chosen(alloc, rules.as_slice(), value)
 }
 
 /// What a case of rules comes to.
 pub fn rule(alloc: Global, verb: &str, cells: &[Json]) -> Told {
     match (verb, cells) {
         ("match", [rule, value]) => matched(alloc, rule, value),
-        ("choose", [Json::Arr(rules), value]) => choice(alloc, rules.as_slice(), value),
+        ("choose", [rules, value]) => chosen(alloc, rules, value),
         _ => Err(Refused::NoCase),
     }
 }
@@ -176,15 +209,15 @@ pub fn rule(alloc: Global, verb: &str, cells: &[Json]) -> Told {
 fn pattern_match(alloc: Global, pattern: &Json, text: &str) -> Told {
     let pattern = pattern_in(alloc, pattern)?;
     let matched = pattern.matches(text);
+    drop(pattern);
     formatted(matched.to_string(alloc))
 }
 
-fn letters(alloc: Global, count: u32) -> Result<String, AllocError> {
-    let mut text = String::new(alloc);
+fn push_letters(text: &mut String, count: u32) -> Result<(), AllocError> {
     for _ in 0..count {
         text.push('a')?;
     }
-    Ok(text)
+    Ok(())
 }
 
 fn count_matches(pattern: &Pattern, text: &str, times: u32) -> u32 {
@@ -197,26 +230,36 @@ fn count_matches(pattern: &Pattern, text: &str, times: u32) -> u32 {
     count
 }
 
-fn pattern_long(alloc: Global, pattern: &Json, count: u32, times: u32) -> Told {
-    let pattern = pattern_in(alloc, pattern)?;
-    let text = letters(alloc, count)?;
-    let count = count_matches(&pattern, text.as_str(), times);
+fn match_long(alloc: Global, pattern: &Pattern, letters: u32, times: u32) -> Told {
+    let mut text = String::new(alloc);
+    let pushed = push_letters(&mut text, letters);
+    let count = count_matches(pattern, text.as_str(), times);
+    drop(text);
+    pushed?;
     formatted(format!(in alloc; "{count} of {times}"))
+}
+
+fn pattern_long(alloc: Global, pattern: &Json, letters: &Json, times: &Json) -> Told {
+    let letters = number(letters)?;
+    let times = number(times)?;
+    let pattern = pattern_in(alloc, pattern)?;
+    let told = match_long(alloc, &pattern, letters, times);
+    drop(pattern);
+    told
 }
 
 fn pattern_spell(alloc: Global, pattern: &Json) -> Told {
     let pattern = pattern_in(alloc, pattern)?;
-    let text = pattern.spell(alloc)?;
-    formatted(format!(in alloc; "\"{}\"", text.as_str()))
+    let text = pattern.spell(alloc);
+    drop(pattern);
+    quoted(alloc, "", text?)
 }
 
 /// What a case of patterns comes to.
 pub fn pattern(alloc: Global, verb: &str, cells: &[Json]) -> Told {
     match (verb, cells) {
         ("match", [pattern, Json::Str(text)]) => pattern_match(alloc, pattern, text.as_str()),
-        ("long", [pattern, count, times]) => {
-            pattern_long(alloc, pattern, number(count)?, number(times)?)
-        }
+        ("long", [pattern, letters, times]) => pattern_long(alloc, pattern, letters, times),
         ("spell", [pattern]) => pattern_spell(alloc, pattern),
         _ => Err(Refused::NoCase),
     }

@@ -21,7 +21,9 @@ use unum_json::Json;
 /// What was read, which is to be these bytes.
 fn all_read(alloc: Global, answer: Result<Bytes, ReadAll>, wanted: &[u8]) -> Told {
     let bytes = answer?;
-    if bytes.as_slice() != wanted {
+    let same = bytes.as_slice() == wanted;
+    drop(bytes);
+    if !same {
         return Err(Refused::Other);
     }
     formatted(format!(in alloc; "all {} bytes", wanted.len()))
@@ -36,18 +38,27 @@ fn most(cell: &Json) -> u64 {
 
 fn read_memory(alloc: Global, given: &[u8], calls: &[Json], most: u64) -> Told {
     let failing = numbers(alloc, calls)?;
-    let mut source = MemSource::new(alloc, given, failing.as_slice())?;
-    all_read(alloc, read_all(alloc, &mut source, most), given)
+    let source = MemSource::new(alloc, given, failing.as_slice());
+    drop(failing);
+    let mut source = source?;
+    let answer = read_all(alloc, &mut source, most);
+    drop(source);
+    all_read(alloc, answer, given)
 }
 
 fn read_bytes(alloc: Global, given: &Json, calls: &[Json], most: u64) -> Told {
     let given = bytes(alloc, given)?;
-    read_memory(alloc, given.as_slice(), calls, most)
+    let told = read_memory(alloc, given.as_slice(), calls, most);
+    drop(given);
+    told
 }
 
 fn read_long(alloc: Global, count: &Json, calls: &[Json], most: u64) -> Told {
-    let given = vec![in alloc; 7u8; number(count)? as usize]?;
-    read_memory(alloc, given.as_slice(), calls, most)
+    let count = number(count)?;
+    let given = vec![in alloc; 7u8; count as usize]?;
+    let told = read_memory(alloc, given.as_slice(), calls, most);
+    drop(given);
+    told
 }
 
 fn written(answer: Result<(), Failed>) -> &'static str {
@@ -60,10 +71,14 @@ fn written(answer: Result<(), Failed>) -> &'static str {
 fn write_memory(alloc: Global, text: &[u8], calls: &[Json], room: &Json) -> Told {
     let room = u64::from(number(room)?);
     let failing = numbers(alloc, calls)?;
-    let mut sink = MemSink::new(alloc, room, failing.as_slice())?;
+    let sink = MemSink::new(alloc, room, failing.as_slice());
+    drop(failing);
+    let mut sink = sink?;
     let answer = written(write_all(&mut sink, text));
     let held = str::from_utf8(sink.held()).unwrap_or("no text");
-    formatted(format!(in alloc; "{answer}, holds \"{held}\""))
+    let told = formatted(format!(in alloc; "{answer}, holds \"{held}\""));
+    drop(sink);
+    told
 }
 
 /// A device that gives or takes so many bytes at a time, and fails at the call of this number.
@@ -116,13 +131,20 @@ fn failing_at(call: &Json, step: u32) -> Result<Device, Refused> {
 }
 
 fn read_device(alloc: Global, call: &Json) -> Told {
-    let mut source = StdSource::new(failing_at(call, 2)?);
-    all_read(alloc, read_all(alloc, &mut source, 6), b"xxxxxx")
+    let device = failing_at(call, 2)?;
+    let mut source = StdSource::new(device);
+    let answer = read_all(alloc, &mut source, 6);
+    drop(source);
+    all_read(alloc, answer, b"xxxxxx")
 }
 
 fn write_device(alloc: Global, call: &Json, step: &Json) -> Told {
-    let mut sink = StdSink::new(failing_at(call, number(step)?)?);
-    said(alloc, written(write_all(&mut sink, b"abcde")))
+    let step = number(step)?;
+    let device = failing_at(call, step)?;
+    let mut sink = StdSink::new(device);
+    let answer = write_all(&mut sink, b"abcde");
+    drop(sink);
+    said(alloc, written(answer))
 }
 
 /// It notes the smallest buffer that it was handed, and whether each piece was all that was left.
@@ -172,16 +194,18 @@ fn read_gauge(alloc: Global, count: &Json) -> Told {
     let mut source = gauged(count as usize);
     let read = read_all(alloc, &mut source, u64::from(count)).is_ok();
     let enough = source.smallest >= 512;
-    formatted(format!(in alloc;
-        "read {read}, left {}, 512 bytes or more {enough}",
-        source.left
-    ))
+    let left = source.left;
+    drop(source);
+    formatted(format!(in alloc; "read {read}, left {left}, 512 bytes or more {enough}"))
 }
 
 fn write_gauge(alloc: Global) -> Told {
     let mut sink = gauged(5);
     let answer = written(write_all(&mut sink, b"abcde"));
-    formatted(format!(in alloc; "{answer}, left {}, pieces whole {}", sink.left, sink.whole))
+    let left = sink.left;
+    let whole = sink.whole;
+    drop(sink);
+    formatted(format!(in alloc; "{answer}, left {left}, pieces whole {whole}"))
 }
 
 /// What a case of sources comes to.

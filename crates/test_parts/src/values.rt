@@ -9,9 +9,9 @@
 //!   `{"fail":[ERROR,CAUSE]}`;
 //! - `outcome copy BYTES`, `outcome new`: a copy of a text, and its length.
 
-use crate::cells::{bytes, formatted, number, said_same, shown};
+use crate::cells::{bytes, formatted, json, number, quoted, said_same, shown};
 use crate::refused::{Refused, Told};
-use std::alloc::{AllocError, Global};
+use std::alloc::Global;
 use unum_json::{
     Fault, Items, Json, NoMemory, Outcome, Text, WholeError, copy, copy_outcome, copy_text, depth,
     is_small, nodes, outcome_json, read, same, same_outcome, same_text, to_json, to_text,
@@ -19,11 +19,12 @@ use unum_json::{
 
 /// Whether bytes spell a value.
 fn spells(alloc: Global, bytes: &[u8], value: &Json) -> bool {
-    let Ok(found) = read(alloc, bytes) else {
-        return false;
-    };
-    match to_json(alloc, &found) {
-        Ok(found) => same(&found, value),
+    match json(alloc, bytes) {
+        Ok(found) => {
+            let same = same(&found, value);
+            drop(found);
+            same
+        }
         Err(_) => false,
     }
 }
@@ -31,27 +32,35 @@ fn spells(alloc: Global, bytes: &[u8], value: &Json) -> bool {
 /// The text of a value, if it spells the same value.
 fn written(alloc: Global, value: &Json) -> Told {
     let text = to_text(alloc, value)?;
-    if !spells(alloc, text.as_bytes(), value) {
-        return Err(Refused::Other);
+    if spells(alloc, text.as_bytes(), value) {
+        Ok(text)
+    } else {
+        drop(text);
+        Err(Refused::Other)
     }
-    Ok(text)
 }
 
 /// The compact text of the value that the bytes spell.
 pub fn compact(alloc: Global, bytes: &[u8]) -> Told {
     let value = read(alloc, bytes)?;
-    match to_json(alloc, &value) {
-        Ok(value) => written(alloc, &value),
-        Err(WholeError::NotWhole { at }) => {
-            formatted(format!(in alloc; "NotWhole at \"{}\"", at.as_str()))
+    let json = to_json(alloc, &value);
+    drop(value);
+    match json {
+        Ok(json) => {
+            let told = written(alloc, &json);
+            drop(json);
+            told
         }
+        Err(WholeError::NotWhole { at }) => quoted(alloc, "NotWhole at ", at),
         Err(WholeError::NoMemory) => Err(Refused::NoMemory),
     }
 }
 
 fn compact_of(alloc: Global, cell: &Json) -> Told {
     let bytes = bytes(alloc, cell)?;
-    compact(alloc, bytes.as_slice())
+    let told = compact(alloc, bytes.as_slice());
+    drop(bytes);
+    told
 }
 
 fn size(alloc: Global, value: &Json) -> Told {
@@ -61,17 +70,22 @@ fn size(alloc: Global, value: &Json) -> Told {
     formatted(format!(in alloc; "nodes {nodes}, depth {depth}, small {small}"))
 }
 
-fn nulls(alloc: Global, count: u32) -> Result<Items<Json>, NoMemory> {
-    let mut items = Items::new(alloc);
+fn push_nulls(items: &mut Items<Json>, count: u32) -> Result<(), NoMemory> {
     for _ in 0..count {
         items.push(Json::Null)?;
     }
-    Ok(items)
+    Ok(())
 }
 
 fn wide(alloc: Global, count: &Json) -> Told {
-    let items = nulls(alloc, number(count)?)?;
-    size(alloc, &Json::Arr(items))
+    let count = number(count)?;
+    let mut items = Items::new(alloc);
+    let pushed = push_nulls(&mut items, count);
+    let value = Json::Arr(items);
+    let told = size(alloc, &value);
+    drop(value);
+    pushed?;
+    told
 }
 
 fn nested(alloc: Global, count: u32) -> Result<Json, NoMemory> {
@@ -85,23 +99,29 @@ fn nested(alloc: Global, count: u32) -> Result<Json, NoMemory> {
 }
 
 fn is_read(alloc: Global, value: &Json) -> bool {
-    match to_text(alloc, value) {
-        Ok(text) => read(alloc, text.as_bytes()).is_ok(),
-        Err(_) => false,
-    }
+    let Ok(text) = to_text(alloc, value) else {
+        return false;
+    };
+    let is_read = read(alloc, text.as_bytes()).is_ok();
+    drop(text);
+    is_read
 }
 
 fn deep(alloc: Global, count: &Json) -> Told {
-    let value = nested(alloc, number(count)?)?;
+    let count = number(count)?;
+    let value = nested(alloc, count)?;
     let depth = depth(&value);
     let small = is_small(&value);
     let read = is_read(alloc, &value);
+    drop(value);
     formatted(format!(in alloc; "depth {depth}, small {small}, read {read}"))
 }
 
 fn is_copy(alloc: Global, left: &Json, right: &Json) -> Told {
     let right = copy(alloc, right)?;
-    said_same(alloc, same(left, &right))
+    let same = same(left, &right);
+    drop(right);
+    said_same(alloc, same)
 }
 
 /// What a case of values comes to.
@@ -116,17 +136,26 @@ pub fn value(alloc: Global, verb: &str, cells: &[Json]) -> Told {
     }
 }
 
+fn fault(alloc: Global, error: &Text, cause: &Text) -> Result<Fault, NoMemory> {
+    let error = copy_text(alloc, error)?;
+    match copy_text(alloc, cause) {
+        Ok(cause) => Ok(Fault { error, cause }),
+        Err(refused) => {
+            drop(error);
+            Err(refused)
+        }
+    }
+}
+
 /// The failure with an error and a cause.
 pub fn failure(alloc: Global, cell: &Json) -> Result<Fault, Refused> {
     let Json::Arr(parts) = cell else {
         return Err(Refused::NoCase);
     };
-    let [Json::Str(error), Json::Str(cause)] = parts.as_slice() else {
-        return Err(Refused::NoCase);
-    };
-    let error = copy_text(alloc, error)?;
-    let cause = copy_text(alloc, cause)?;
-    Ok(Fault { error, cause })
+    match parts.as_slice() {
+        [Json::Str(error), Json::Str(cause)] => Ok(fault(alloc, error, cause)?),
+        _ => Err(Refused::NoCase),
+    }
 }
 
 fn outcome_in(alloc: Global, cell: &Json) -> Result<Outcome, Refused> {
@@ -145,40 +174,58 @@ fn outcome_in(alloc: Global, cell: &Json) -> Result<Outcome, Refused> {
 /// The text of an outcome.
 pub fn shown_outcome(alloc: Global, outcome: &Outcome) -> Told {
     let value = outcome_json(alloc, outcome)?;
-    shown(alloc, &value)
+    shown(alloc, value)
 }
 
 fn text_of_outcome(alloc: Global, cell: &Json) -> Told {
     let outcome = outcome_in(alloc, cell)?;
-    shown_outcome(alloc, &outcome)
+    let told = shown_outcome(alloc, &outcome);
+    drop(outcome);
+    told
+}
+
+fn same_as_copy(alloc: Global, left: &Outcome, right: &Outcome) -> Told {
+    let copy = copy_outcome(alloc, right)?;
+    let same = same_outcome(left, &copy);
+    drop(copy);
+    said_same(alloc, same)
+}
+
+fn is_copy_of(alloc: Global, left: &Outcome, right: &Json) -> Told {
+    let right = outcome_in(alloc, right)?;
+    let told = same_as_copy(alloc, left, &right);
+    drop(right);
+    told
 }
 
 fn is_copy_of_outcome(alloc: Global, left: &Json, right: &Json) -> Told {
     let left = outcome_in(alloc, left)?;
-    let right = copied(alloc, right)?;
-    said_same(alloc, same_outcome(&left, &right))
+    let told = is_copy_of(alloc, &left, right);
+    drop(left);
+    told
 }
 
-fn copied(alloc: Global, cell: &Json) -> Result<Outcome, Refused> {
-    let outcome = outcome_in(alloc, cell)?;
-    Ok(copy_outcome(alloc, &outcome)?)
-}
-
-fn copy_of_text(alloc: Global, text: &Text) -> Told {
-    let copy = copy_text(alloc, text)?;
+fn copy_of_text(alloc: Global, text: Text) -> Told {
+    let copy = copy_text(alloc, &text);
     let count = text.len();
     let empty = text.is_empty();
-    let same = same_text(&copy, text);
-    formatted(format!(in alloc;
+    let same = copy.as_ref().is_ok_and(|copy| same_text(copy, &text));
+    drop(text);
+    let copy = copy?;
+    let told = formatted(format!(in alloc;
         "\"{}\", {count} bytes, empty {empty}, same {same}",
         copy.as_str()
-    ))
+    ));
+    drop(copy);
+    told
 }
 
 fn copy_of_bytes(alloc: Global, cell: &Json) -> Told {
     let bytes = bytes(alloc, cell)?;
-    match Text::from_bytes(alloc, bytes.as_slice())? {
-        Some(text) => copy_of_text(alloc, &text),
+    let text = Text::from_bytes(alloc, bytes.as_slice());
+    drop(bytes);
+    match text? {
+        Some(text) => copy_of_text(alloc, text),
         None => Err(Refused::Nothing),
     }
 }
@@ -189,7 +236,7 @@ pub fn outcome(alloc: Global, verb: &str, cells: &[Json]) -> Told {
         ("text", [cell]) => text_of_outcome(alloc, cell),
         ("same", [left, right]) => is_copy_of_outcome(alloc, left, right),
         ("copy", [cell]) => copy_of_bytes(alloc, cell),
-        ("new", []) => copy_of_text(alloc, &Text::new(alloc)),
+        ("new", []) => copy_of_text(alloc, Text::new(alloc)),
         _ => Err(Refused::NoCase),
     }
 }
