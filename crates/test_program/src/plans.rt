@@ -34,10 +34,10 @@ fn tell_all(out: &mut String, plan: &Plan, parts: &str) -> Result<(), Fault> {
 
 /// What the plan of a bundle says.
 pub fn plan(alloc: Global, out: &mut String, bytes: &[u8], rest: &str) -> Result<(), Fault> {
-    let Ok(opening) = read_bundle(alloc, bytes) else {
+    let Ok(bundle) = read_bundle(alloc, bytes) else {
         return Err(Fault::NotRead);
     };
-    let told = tell_all(out, &opening.plan, rest);
-    drop(opening);
+    let told = tell_all(out, bundle.plan(), rest);
+    drop(bundle);
     told
 }

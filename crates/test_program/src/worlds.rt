@@ -12,8 +12,8 @@ use crate::fault::Fault;
 use crate::given::{Given, number, parted, split_word, tell, whole};
 use fn_table::{BuiltIns, FnKind, Functions};
 use std::alloc::Global;
-use unum_cli::read_bundle;
 use unum_cli::session_report::report;
+use unum_cli::{read_bundle, runnable};
 use unum_json::{Items, Json};
 use unum_world::{ApplyError, Event, Opening, Planned, Session, World};
 
@@ -55,7 +55,10 @@ fn with_sessions(alloc: Global, opening: Opening, inputs: (i64, i64)) -> Result<
 fn opening(alloc: Global, given: &Given) -> Result<Opening, Fault>
     ensures { IfOk result (λ o. Fits o 10000000) }
 {
-    let Ok(opening) = read_bundle(alloc, given.bytes()) else {
+    let Ok(bundle) = read_bundle(alloc, given.bytes()) else {
+        return Err(Fault::NotRead);
+    };
+    let Ok(opening) = runnable(alloc, bundle) else {
         return Err(Fault::NotRead);
     };
     match given.sessions() {
