@@ -1,6 +1,7 @@
 //! State machines in a profile of the Amazon States Language, and what runs of them are.
 #![tactic(auto)]
 
+mod copying;
 mod counting;
 mod laws;
 mod machine;
@@ -9,6 +10,10 @@ mod shown;
 mod validity;
 mod worked;
 
+pub use copying::{
+    copy_errors, copy_item_template, copy_map_shape, copy_pass_shape, copy_path_shape,
+    copy_retriers,
+};
 pub use counting::count_states;
 pub use laws::{central_runs, lawful, numbers, runs, sequential, stops, valid};
 pub use machine::{After, Block, Care, Catcher, Machine, Retrier, State, TopRule};

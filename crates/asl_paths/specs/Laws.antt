@@ -1,8 +1,11 @@
--- How getting and putting go together.
+-- How getting and putting go together, and how paths are read and spelled.
 use Rattle.std.specs.Prelude.{◌≡◌, ◌≢◌, List, ◌∷◌, ◌++◌, Some}
 use Rattle.unum_json.specs.declared.value.Json.{Json}
 use Rattle.asl_paths.specs.declared.path.PathStep.{PathStep}
+use Rattle.asl_paths.specs.Grammar.{path_text}
 use Rattle.asl_paths.specs.Lookup.{get, put}
+use Rattle.asl_paths.specs.Reading.{path_of}
+use Rattle.asl_paths.specs.Steps.{IsPath}
 
 -- what was put at a path is found there
 abbrev pub PutIsFound : Type 0
@@ -18,3 +21,7 @@ Part path other =
 abbrev pub PutKeepsOthers : Type 0
 PutKeepsOthers =
     (path other : List PathStep) (raw made after : Json) → Part path other → put path raw made ≡ Some after → get other after ≡ get other raw
+
+-- the canonical text of a path reads as the path
+abbrev pub PathsReadBack : Type 0
+PathsReadBack = (path : List PathStep) → IsPath path → path_of (path_text path) ≡ Some path

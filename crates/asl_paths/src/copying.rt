@@ -67,9 +67,12 @@ fn copy_part_fields(alloc: Global, fields: &Fields<Part>) -> Result<Fields<Part>
 pub fn copy_template(alloc: Global, template: &Template) -> Result<Template, NoMemory>
     ensures { IfOk result (λ t. t ≡ template.now) }
 {
-    let fields = copy_part_fields(alloc, &template.fields)?;
-    Ok(Template {
-        fields,
-        item: template.item,
-    })
+    let source = copy(alloc, template.source())?;
+    match copy_part_fields(alloc, template.fields()) {
+        Ok(fields) => Ok(Template::from_parts(fields, template.item(), source)),
+        Err(refused) => {
+            drop(source);
+            Err(refused)
+        }
+    }
 }

@@ -15,7 +15,7 @@ use Rattle.asl_read.specs.declared.fault.LRule.TheVariants.{L2, L3, L4, L5, L7}
 use Rattle.asl_read.specs.declared.table.How.{How}
 use Rattle.asl_read.specs.declared.table.How.TheVariants as how
 use Rattle.asl_read.specs.declared.table.Kind.{Kind}
-use Rattle.asl_read.specs.declared.table.Kind.TheVariants.{Machine, State, TopRule, InnerRule}
+use Rattle.asl_read.specs.declared.table.Kind.TheVariants.{Machine, State, TopRule, InnerRule, FlatRule}
 use Rattle.asl_read.specs.declared.table.StateType.{StateType}
 use Rattle.asl_read.specs.declared.checking.Form.{Form}
 use Rattle.asl_read.specs.declared.checking.Form.TheVariants as form
@@ -48,6 +48,7 @@ form_of _ d = form.Leaf
 abbrev pub rule_faults : Kind → Data → List Broken
 rule_faults TopRule d = if is_malformed false d then here L7 else []
 rule_faults InnerRule d = if is_malformed true d then here L7 else []
+rule_faults FlatRule d = if is_malformed false d then here L7 else []
 rule_faults _ d = []
 
 -- each key, then a rule as a whole, then each required key

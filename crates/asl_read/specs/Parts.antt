@@ -9,6 +9,7 @@ use Rattle.serde_json.specs.Find.{get, as_bool, as_str, as_number, as_i64}
 use Rattle.unum_json.specs.Whole.{Place, of_data}
 use Rattle.unum_json.specs.declared.value.Json.{Json}
 use Rattle.unum_json.specs.declared.value.Json as json
+use Rattle.asl_paths.specs.Canonical.{canonical}
 use Rattle.asl_paths.specs.Reading.{path_of}
 use Rattle.asl_paths.specs.Templates.{template_of}
 use Rattle.asl_paths.specs.declared.path.Path.{Path}
@@ -45,12 +46,12 @@ json_or_null (Err p) = json.Null
 abbrev pub json_of : Data → Json
 json_of d = json_or_null (of_data d)
 
-abbrev pub parts_or_none : Result (List (Key × Part)) Place → List (Key × Part)
-parts_or_none (Ok parts) = parts
-parts_or_none (Err p) = []
+abbrev pub template_by : (for_item : Bool) → Json → Result (List (Key × Part)) Place → Template
+template_by for_item v (Ok parts) = record { fields = parts; item = for_item; source = canonical for_item v }
+template_by for_item v (Err p) = record { fields = []; item = for_item; source = json.Obj [] }
 
 abbrev pub template_at : (for_item : Bool) → Data → Template
-template_at for_item d = record { fields = parts_or_none (template_of for_item (json_of d)); item = for_item }
+template_at for_item d = template_by for_item (json_of d) (template_of for_item (json_of d))
 
 abbrev pub items_in : Items → List Data
 items_in no_items = []

@@ -8,7 +8,7 @@ use Rattle.asl_read.specs.declared.objects.LeftOut.TheVariants as left
 use Rattle.asl_read.specs.declared.table.How.{How}
 use Rattle.asl_read.specs.declared.table.How.TheVariants.{Unread, Text, Truth, Whole, Data, Language, Mode, Path, PathOrNull, Template, ItemTemplate, Texts, Object, Each, States}
 use Rattle.asl_read.specs.declared.table.Kind.{Kind}
-use Rattle.asl_read.specs.declared.table.Kind.TheVariants.{Machine, Branch, ItemBody, ProcessorConfig, State, Retrier, Catcher, TopRule, InnerRule}
+use Rattle.asl_read.specs.declared.table.Kind.TheVariants.{Machine, Branch, ItemBody, ProcessorConfig, State, Retrier, Catcher, TopRule, InnerRule, FlatRule}
 use Rattle.asl_read.specs.declared.table.StateType.{StateType}
 use Rattle.asl_read.specs.declared.table.StateType.TheVariants as state
 use Rattle.asl_read.specs.declared.table.Operator.{Operator}
@@ -96,12 +96,14 @@ table Retrier =
 table Catcher = must (codes "ErrorEquals") Texts ∷ must (codes "Next") Text ∷ may (codes "ResultPath") PathOrNull ∷ may (codes "Comment") Unread ∷ []
 table TopRule = must (codes "Next") Text ∷ rule
 table InnerRule = may (codes "Next") Text ∷ rule
+table FlatRule = must (codes "Next") Whole ∷ rule
 
 -- which other fields are left out by name
 abbrev pub others : Kind → LeftOut
 others ProcessorConfig = left.Everything
 others TopRule = left.Operators
 others InnerRule = left.Operators
+others FlatRule = left.Operators
 others _ = left.Names
 
 -- how the value of a field is read; nothing depends on a key that is not in the table

@@ -102,7 +102,7 @@ fn left_out_of(kind: Kind) -> LeftOut
 {
     match kind {
         Kind::ProcessorConfig => LeftOut::Everything,
-        Kind::TopRule | Kind::InnerRule => LeftOut::Operators,
+        Kind::TopRule | Kind::InnerRule | Kind::FlatRule => LeftOut::Operators,
         _ => LeftOut::Names,
     }
 }
@@ -112,7 +112,7 @@ fn check_rule(alloc: Global, kind: Kind, value: &Value) -> Result<(), ReadFault>
     ensures { Checks result (rule_faults kind (view value.now)) }
 {
     let malformed = match kind {
-        Kind::TopRule => is_malformed(alloc, false, value)?,
+        Kind::TopRule | Kind::FlatRule => is_malformed(alloc, false, value)?,
         Kind::InnerRule => is_malformed(alloc, true, value)?,
         _ => false,
     };

@@ -106,7 +106,7 @@ fn joined(alloc: Global, sign: &str, step: &str, place: &str) -> Result<Text, Al
     let mut out = String::from_str(alloc, sign)?;
     out.push_str(step)?;
     out.push_str(place)?;
-    Ok(Text::from_string(out))
+    Ok(Text::from_string(out)?)
 }
 
 /// The same fault, as seen from the object that has the value at a key.

@@ -22,6 +22,11 @@ pub use checking::{check, check_fields};
 pub use fault::{LRule, ReadFault, refused, refused_at, under_index, under_key};
 pub use machines::{machine_of, read_machine};
 pub use objects::{LeftOut, Need, Row, check_keys, check_required, how_of};
+pub use rules::rule_of;
+pub use shapes::{
+    item_template_at, map_shape_in, pass_shape_in, path_at, path_if, path_in, path_shape_in,
+    shape_in,
+};
 pub use shown::examples;
 pub use table::{How, Kind, StateType};
-pub use values::{json_of, text_in, text_of, whole_of};
+pub use values::{json_of, list_in, number_in, text_in, text_of, texts_in, whole_of};

@@ -232,6 +232,48 @@ static TOP_RULE: [Row<How>; 34] = [
     may!("IsBoolean", How::Truth),
 ];
 
+/// The fields of a rule of a choice in flat code.
+static FLAT_RULE: [Row<How>; 34] = [
+    must!("Next", How::Whole),
+    may!("And", How::Each(Kind::InnerRule)),
+    may!("Or", How::Each(Kind::InnerRule)),
+    may!("Not", How::Object(Kind::InnerRule)),
+    row!(
+        "Variable",
+        Need::RequiredUnless(&["And", "Or", "Not"]),
+        How::Path
+    ),
+    may!("Comment", How::Unread),
+    may!("StringEquals", How::Text),
+    may!("StringLessThan", How::Text),
+    may!("StringLessThanEquals", How::Text),
+    may!("StringGreaterThan", How::Text),
+    may!("StringGreaterThanEquals", How::Text),
+    may!("StringEqualsPath", How::Path),
+    may!("StringLessThanPath", How::Path),
+    may!("StringLessThanEqualsPath", How::Path),
+    may!("StringGreaterThanPath", How::Path),
+    may!("StringGreaterThanEqualsPath", How::Path),
+    may!("NumericEquals", How::Whole),
+    may!("NumericLessThan", How::Whole),
+    may!("NumericLessThanEquals", How::Whole),
+    may!("NumericGreaterThan", How::Whole),
+    may!("NumericGreaterThanEquals", How::Whole),
+    may!("NumericEqualsPath", How::Path),
+    may!("NumericLessThanPath", How::Path),
+    may!("NumericLessThanEqualsPath", How::Path),
+    may!("NumericGreaterThanPath", How::Path),
+    may!("NumericGreaterThanEqualsPath", How::Path),
+    may!("BooleanEquals", How::Truth),
+    may!("BooleanEqualsPath", How::Path),
+    may!("StringMatches", How::Text),
+    may!("IsNull", How::Truth),
+    may!("IsPresent", How::Truth),
+    may!("IsNumeric", How::Truth),
+    may!("IsString", How::Truth),
+    may!("IsBoolean", How::Truth),
+];
+
 /// The fields of a rule in And, Or or Not.
 static INNER_RULE: [Row<How>; 34] = [
     may!("Next", How::Text),
@@ -303,5 +345,6 @@ pub(crate) fn rows(kind: Kind) -> &'static [Row<How>]
         Kind::Catcher => &CATCHER,
         Kind::TopRule => &TOP_RULE,
         Kind::InnerRule => &INNER_RULE,
+        Kind::FlatRule => &FLAT_RULE,
     }
 }

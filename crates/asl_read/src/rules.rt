@@ -70,7 +70,7 @@ fn pattern_of(alloc: Global, text: &Text) -> Result<Pattern, NoMemory>
 {
     match Pattern::read(alloc, text.as_str()) {
         Ok(pattern) => Ok(pattern),
-        Err(PatternError::LoneBackslash) => Ok(Pattern::from_pieces(Vec::new(alloc))),
+        Err(PatternError::LoneBackslash) => Ok(Pattern::empty(alloc)),
         Err(PatternError::NoMemory) => Err(NoMemory),
     }
 }
@@ -101,12 +101,12 @@ fn op_by(alloc: Global, operator: Operator, value: &Value) -> Result<Op, NoMemor
     match operator {
         Operator::Text(rel) => {
             let text = text_of(alloc, value)?;
-            Ok(compared(OpKind::Text, rel, Json::Str(text)))
+            Ok(compared(OpKind::Text, rel, Json::string(text)))
         }
         Operator::TextAt(rel) => found_by(alloc, OpKind::Text, rel, value),
-        Operator::Number(rel) => Ok(compared(OpKind::Number, rel, Json::Int(whole_of(value)))),
+        Operator::Number(rel) => Ok(compared(OpKind::Number, rel, Json::whole(whole_of(value)))),
         Operator::NumberAt(rel) => found_by(alloc, OpKind::Number, rel, value),
-        Operator::Truth => Ok(compared(OpKind::Truth, Rel::Equal, Json::Bool(truth_of(value)))),
+        Operator::Truth => Ok(compared(OpKind::Truth, Rel::Equal, Json::truth(truth_of(value)))),
         Operator::TruthAt => found_by(alloc, OpKind::Truth, Rel::Equal, value),
         Operator::Matches => {
             let text = text_of(alloc, value)?;
@@ -229,7 +229,7 @@ fn or_not_test(alloc: Global, value: &Value) -> Result<Rule, NoMemory>
 /// The rule that a value spells.
 #[cycle(rules)]
 #[tactic(auto, using(crate::proofs::Inside::rule_here))]
-fn rule_of(alloc: Global, value: &Value) -> Result<Rule, NoMemory>
+pub fn rule_of(alloc: Global, value: &Value) -> Result<Rule, NoMemory>
     ensures { IfOk result (λ r. r ≡ rule_of (view value.now)) }
 {
     match value.get("And") {

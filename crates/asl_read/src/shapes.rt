@@ -1,6 +1,6 @@
 //! Paths, templates and data flow.
 
-ghost use Rattle.std.specs.Prelude.{◌≡◌, [], IfOk, IsTrue};
+ghost use Rattle.std.specs.Prelude.{◌≡◌, [], IfOk, IsTrue, true};
 ghost use Rattle.serde_json.specs.View.{view};
 ghost use Rattle.asl_shape.specs.Stages.{is_plain};
 ghost use Rattle.asl_read.specs.Parts.{path_at, path_in, path_if, path_or_null, path_in_text, template_at, template_if, shape_in, pass_shape_in, path_shape_in, map_shape_in, item_template_in};
@@ -11,7 +11,7 @@ use asl_paths::{Path, PathError, Template, TemplateError};
 use asl_shape::Shape;
 use serde_json::Value;
 use std::alloc::Global;
-use unum_json::{Fields, NoMemory};
+use unum_json::NoMemory;
 
 /// The path of a text, or `$`.
 fn path_in_text(alloc: Global, text: &str) -> Result<Path, NoMemory>
@@ -25,7 +25,7 @@ fn path_in_text(alloc: Global, text: &str) -> Result<Path, NoMemory>
 }
 
 /// The path, or `$`.
-pub(crate) fn path_at(alloc: Global, value: &Value) -> Result<Path, NoMemory>
+pub fn path_at(alloc: Global, value: &Value) -> Result<Path, NoMemory>
     ensures { IfOk result (λ p. p ≡ path_at (view value.now)) }
 {
     match value.as_str() {
@@ -35,7 +35,7 @@ pub(crate) fn path_at(alloc: Global, value: &Value) -> Result<Path, NoMemory>
 }
 
 /// The path of a key, which is `$` where the key is missing.
-pub(crate) fn path_in(alloc: Global, value: &Value, key: &str) -> Result<Path, NoMemory>
+pub fn path_in(alloc: Global, value: &Value, key: &str) -> Result<Path, NoMemory>
     ensures { IfOk result (λ p. p ≡ path_in key.now (view value.now)) }
 {
     match value.get(key) {
@@ -54,7 +54,7 @@ fn path_or_null(alloc: Global, value: &Value) -> Result<Option<Path>, NoMemory>
 }
 
 /// The path of a key, which is `$` where the key is missing, and none where it is null.
-pub(crate) fn path_if(alloc: Global, value: &Value, key: &str) -> Result<Option<Path>, NoMemory>
+pub fn path_if(alloc: Global, value: &Value, key: &str) -> Result<Option<Path>, NoMemory>
     ensures { IfOk result (λ p. p ≡ path_if key.now (view value.now)) }
 {
     match value.get(key) {
@@ -70,10 +70,7 @@ fn template_at(alloc: Global, value: &Value, item: bool) -> Result<Template, NoM
     let json = json_of(alloc, value)?;
     match Template::read(alloc, &json, item) {
         Ok(template) => Ok(template),
-        Err(TemplateError::BadTemplate { at: _ }) => Ok(Template {
-            fields: Fields::new(alloc),
-            item,
-        }),
+        Err(TemplateError::BadTemplate { at: _ }) => Template::empty(alloc, item),
         Err(TemplateError::NoMemory) => Err(NoMemory),
     }
 }
@@ -94,7 +91,7 @@ fn template_if(
 }
 
 /// The shape of a Task or a Parallel.
-pub(crate) fn shape_in(alloc: Global, value: &Value) -> Result<Shape, NoMemory>
+pub fn shape_in(alloc: Global, value: &Value) -> Result<Shape, NoMemory>
     ensures { IfOk result (λ s. s ≡ shape_in (view value.now)) }
 {
     let input = path_if(alloc, value, "InputPath")?;
@@ -112,7 +109,7 @@ pub(crate) fn shape_in(alloc: Global, value: &Value) -> Result<Shape, NoMemory>
 }
 
 /// The shape of a Pass.
-pub(crate) fn pass_shape_in(alloc: Global, value: &Value) -> Result<PassShape, NoMemory>
+pub fn pass_shape_in(alloc: Global, value: &Value) -> Result<PassShape, NoMemory>
     ensures { IfOk result (λ s. s ≡ pass_shape_in (view value.now)) }
 {
     let input = path_if(alloc, value, "InputPath")?;
@@ -129,7 +126,7 @@ pub(crate) fn pass_shape_in(alloc: Global, value: &Value) -> Result<PassShape, N
 }
 
 /// The shape of a Choice or a Succeed.
-pub(crate) fn path_shape_in(alloc: Global, value: &Value) -> Result<PathShape, NoMemory>
+pub fn path_shape_in(alloc: Global, value: &Value) -> Result<PathShape, NoMemory>
     ensures { IfOk result (λ s. s ≡ path_shape_in (view value.now)) }
 {
     let input = path_if(alloc, value, "InputPath")?;
@@ -144,7 +141,7 @@ pub(crate) fn path_shape_in(alloc: Global, value: &Value) -> Result<PathShape, N
 }
 
 /// The shape of a Map.
-pub(crate) fn map_shape_in(alloc: Global, value: &Value) -> Result<MapShape, NoMemory>
+pub fn map_shape_in(alloc: Global, value: &Value) -> Result<MapShape, NoMemory>
     ensures { IfOk result (λ s. s ≡ map_shape_in (view value.now)) }
 {
     let input = path_if(alloc, value, "InputPath")?;
@@ -175,4 +172,11 @@ pub(crate) fn item_template_in(
         Some(found) => Ok(Some(ItemTemplate::from_template(template_at(alloc, found, true)?))),
         None => Ok(None),
     }
+}
+
+/// The item template of a value, or the empty one.
+pub fn item_template_at(alloc: Global, value: &Value) -> Result<ItemTemplate, NoMemory>
+    ensures { IfOk result (λ t. t ≡ template_at true (view value.now)) }
+{
+    Ok(ItemTemplate::from_template(template_at(alloc, value, true)?))
 }

@@ -31,6 +31,8 @@ pub enum Kind {
     TopRule,
     /// A rule in And, Or or Not.
     InnerRule,
+    /// A rule of a choice in flat code, whose Next is a number.
+    FlatRule,
 }
 
 /// How a field's value is read.

@@ -40,7 +40,7 @@ pub fn json_of(alloc: Global, value: &Value) -> Result<Json, NoMemory>
 {
     match to_json(alloc, value) {
         Ok(json) => Ok(json),
-        Err(WholeError::NotWhole { at: _ }) => Ok(Json::Null),
+        Err(WholeError::NotWhole { at: _ }) => Ok(Json::null()),
         Err(WholeError::NoMemory) => Err(NoMemory),
     }
 }
@@ -86,7 +86,7 @@ fn items_of(value: &Value) -> &[Value]
 }
 
 /// The items of a key's array, and none where it is missing.
-pub(crate) fn list_in<'a>(value: &'a Value, key: &str) -> &'a [Value]
+pub fn list_in<'a>(value: &'a Value, key: &str) -> &'a [Value]
     ensures { map view result.now ≡ list_in key.now (view value.now) }
 {
     match value.get(key) {
@@ -106,7 +106,7 @@ fn within(bound: u32, number: i64) -> u32
 }
 
 /// The number of a key, from 0 to the bound. Any other is the greatest `u32`.
-pub(crate) fn number_in(value: &Value, key: &str, bound: u32, missing: u32) -> u32
+pub fn number_in(value: &Value, key: &str, bound: u32, missing: u32) -> u32
     ensures { result ≡ number_in key.now bound missing (view value.now) }
 {
     match value.get(key) {
@@ -116,7 +116,7 @@ pub(crate) fn number_in(value: &Value, key: &str, bound: u32, missing: u32) -> u
 }
 
 /// The texts of a key's array.
-pub(crate) fn texts_in(alloc: Global, value: &Value, key: &str) -> Result<Items<Text>, NoMemory>
+pub fn texts_in(alloc: Global, value: &Value, key: &str) -> Result<Items<Text>, NoMemory>
     ensures { IfOk result (λ ts. ts ≡ map text_of (list_in key.now (view value.now))) }
 {
     let mut texts = Items::new(alloc);

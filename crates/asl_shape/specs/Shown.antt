@@ -8,6 +8,7 @@ use Rattle.asl_paths.specs.declared.path.Path.{Path}
 use Rattle.asl_paths.specs.declared.path.PathStep.TheVariants.{Field, Index}
 use Rattle.asl_paths.specs.declared.template.Template.{Template}
 use Rattle.asl_paths.specs.declared.template.Part as part
+use Rattle.asl_paths.specs.Grammar.{path_text}
 use Rattle.asl_shape.specs.declared.shape.Shape.{Shape}
 use Rattle.asl_shape.specs.declared.trouble.ShapeError.{ShapeError}
 use Rattle.asl_shape.specs.declared.trouble.ShapeError.TheVariants as error
@@ -43,7 +44,11 @@ at_key key = Field key ∷ []
 
 -- the template {"x.$":"$.KEY"}
 abbrev pub x_from : List ℕ → Template
-x_from key = record { fields = (codes "x", part.Found (at_key key)) ∷ []; item = false }
+x_from key = record {
+  fields = (codes "x", part.Found (at_key key)) ∷ [];
+  item = false;
+  source = json.Obj ((codes "x.$", json.Str (path_text (at_key key))) ∷ []);
+}
 
 -- InputPath null gives {}, and $ the input
 abbrev pub InputPathGives : Type 0

@@ -1,6 +1,6 @@
 //! The rules of what was read: names lead to something, and sizes and numbers are in their ranges.
 
-ghost use Rattle.std.specs.Prelude.{◌≡◌, ◌++◌, codes, decimal, flat_map, string_bytes};
+ghost use Rattle.std.specs.Prelude.{◌≡◌, ◌++◌, IfOk, codes, decimal, flat_map, string_bytes};
 ghost use Rattle.std.specs.Map.{keys_of};
 ghost use Rattle.unum_json.specs.Keys.{IsRising};
 ghost use Rattle.bundle_read.specs.Bounds.{in_items, lost_session, lost_sessions, lost_machine, lost_machines, is_large, large_value, large_input, crowd, is_wild, wild_function};
@@ -13,17 +13,18 @@ use crate::lookup::knows;
 use crate::refusal::{BRule, BundleError, Refusal, RuleCode};
 use asl_model::Machine;
 use fn_table::FnKind;
-use std::alloc::Global;
+use std::alloc::{AllocError, Global};
 use unum_json::{Text, is_small};
 
 /// The refusal by a rule at a place.
-pub fn broken(rule: BRule, at: String) -> BundleError
-    ensures { result ≡ BundleError.Refused (Refusal.One (code.Bundle rule) (string_bytes at)) }
+pub fn broken(rule: BRule, at: String) -> Result<BundleError, AllocError>
+    ensures { IfOk result (λ e. e ≡ BundleError.Refused (Refusal.One (code.Bundle rule) (string_bytes at))) }
 {
-    BundleError::Refused(Refusal::One {
+    let at = Text::from_string(at)?;
+    Ok(BundleError::Refused(Refusal::One {
         rule: RuleCode::Bundle(rule),
-        at: Text::from_string(at),
-    })
+        at,
+    }))
 }
 
 fn check_session(
@@ -38,7 +39,7 @@ fn check_session(
     if knows(machines, session.machine.as_bytes()) {
         return Ok(());
     }
-    Err(broken(BRule::B1, format!(in alloc; "/sessions/{number}/machine")?))
+    Err(broken(BRule::B1, format!(in alloc; "/sessions/{number}/machine")?)?)
 }
 
 /// Refuses the first session whose machine is not there.
@@ -68,7 +69,7 @@ fn check_calls(
         return Ok(());
     }
     let name = machine.0.as_str();
-    Err(broken(BRule::B2, format!(in alloc; "/machines/{name}")?))
+    Err(broken(BRule::B2, format!(in alloc; "/machines/{name}")?)?)
 }
 
 /// Refuses the first machine a Task of which calls a function that is not there.
@@ -92,7 +93,7 @@ fn check_value(alloc: Global, function: &(Text, FnKind)) -> Result<(), BundleErr
     match &function.1 {
         FnKind::Const(value) if !is_small(value) => {
             let name = function.0.as_str();
-            Err(broken(BRule::B3, format!(in alloc; "/functions/{name}/value")?))
+            Err(broken(BRule::B3, format!(in alloc; "/functions/{name}/value")?)?)
         }
         _ => Ok(()),
     }
@@ -114,7 +115,7 @@ fn check_input(alloc: Global, number: usize, session: &DraftSession) -> Result<(
     if is_small(&session.input) {
         return Ok(());
     }
-    Err(broken(BRule::B3, format!(in alloc; "/sessions/{number}/input")?))
+    Err(broken(BRule::B3, format!(in alloc; "/sessions/{number}/input")?)?)
 }
 
 /// Refuses the first session whose input is too large.
@@ -134,7 +135,7 @@ pub fn check_count(alloc: Global, sessions: &[DraftSession]) -> Result<(), Bundl
     if sessions.len() <= 1000 {
         return Ok(());
     }
-    Err(broken(BRule::B4, String::from_str(alloc, "/sessions")?))
+    Err(broken(BRule::B4, String::from_str(alloc, "/sessions")?)?)
 }
 
 fn check_every(alloc: Global, function: &(Text, FnKind)) -> Result<(), BundleError>
@@ -143,7 +144,7 @@ fn check_every(alloc: Global, function: &(Text, FnKind)) -> Result<(), BundleErr
     match &function.1 {
         FnKind::Flaky(every) if !(2 <= *every && *every <= 1000) => {
             let name = function.0.as_str();
-            Err(broken(BRule::B5, format!(in alloc; "/functions/{name}/every")?))
+            Err(broken(BRule::B5, format!(in alloc; "/functions/{name}/every")?)?)
         }
         _ => Ok(()),
     }

@@ -42,7 +42,7 @@ fn json_in(alloc: Global, value: &Value, key: &str) -> Result<Json, NoMemory>
 {
     match value.get(key) {
         Some(found) => json_of(alloc, found),
-        None => Ok(Json::Null),
+        None => Ok(Json::null()),
     }
 }
 

@@ -22,7 +22,7 @@ fn check_number(alloc: Global, key: &str, high: u32, number: u32) -> Result<(), 
     if number <= high {
         return Ok(());
     }
-    Err(broken(BRule::B5, format!(in alloc; "/plan/{key}")?))
+    Err(broken(BRule::B5, format!(in alloc; "/plan/{key}")?)?)
 }
 
 /// Refuses an item of the script, or tells the lowest attempt after it.
@@ -30,13 +30,13 @@ fn check_item(alloc: Global, low: u32, number: usize, item: &[u32]) -> Result<u3
     ensures { Makes result (wild_item low number item.now) (next_low low item.now) }
 {
     let [attempt, step] = item else {
-        return Err(broken(BRule::B5, format!(in alloc; "/plan/script/{number}")?));
+        return Err(broken(BRule::B5, format!(in alloc; "/plan/script/{number}")?)?);
     };
     if !(low <= *attempt && *attempt < ATTEMPTS) {
-        return Err(broken(BRule::B5, format!(in alloc; "/plan/script/{number}/0")?));
+        return Err(broken(BRule::B5, format!(in alloc; "/plan/script/{number}/0")?)?);
     }
     if *step >= 100_000 {
-        return Err(broken(BRule::B5, format!(in alloc; "/plan/script/{number}/1")?));
+        return Err(broken(BRule::B5, format!(in alloc; "/plan/script/{number}/1")?)?);
     }
     Ok(*attempt + 1)
 }
@@ -59,7 +59,7 @@ fn check_twin(alloc: Global, low: u32, number: usize, attempt: u32) -> Result<u3
     if low <= attempt && attempt < ATTEMPTS {
         return Ok(attempt + 1);
     }
-    Err(broken(BRule::B5, format!(in alloc; "/plan/twins/{number}")?))
+    Err(broken(BRule::B5, format!(in alloc; "/plan/twins/{number}")?)?)
 }
 
 /// Refuses the first attempt that is out of range or not above the one before it.

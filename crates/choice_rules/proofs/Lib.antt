@@ -4,3 +4,4 @@ pub mod Searches
 pub mod MatchTest
 pub mod PatternReading
 pub mod Tries
+pub mod PatternBack

@@ -1,53 +1,17 @@
--- The texts of patterns (Amazon States Language, "Choice State"): `*` is a star, and a backslash makes the next character literal.
-use Rattle.std.specs.Prelude.{◌≡◌, ◌≢◌, ℕ, ◌==◌, ◌||◌, ◌⊎◌, if◌then◌else◌, Bool, true, false, List, [], ◌∷◌, ◌++◌, flat_map, codes, Option, Some, None, Result, Ok, Err}
+-- What is read as a pattern, character by character.
+use Rattle.std.specs.Prelude.{◌≡◌, ℕ, Bool, List, ◌∷◌, ◌++◌, Option, Some, None, Result, Ok, Err}
 use Rattle.std.specs.Option.{option_map}
-use Rattle.std.specs.Str.{chars}
-use Rattle.std.specs.Char.{encode_utf8}
+pub use Rattle.choice_rules.specs.PatternTexts.{SpellsPiece, SpellsPieces, Spells, with_piece, pieces_of, pattern_of, piece_text, pattern_text, IsPattern}
 use Rattle.choice_rules.specs.declared.pattern.Pattern.{Pattern}
 use Rattle.choice_rules.specs.declared.pattern.Piece.{Piece}
-use Rattle.choice_rules.specs.declared.pattern.Piece.TheVariants.{Literal, Star}
 use Rattle.choice_rules.specs.declared.reading.PatternError.{PatternError}
 use Rattle.choice_rules.specs.declared.reading.PatternError.TheVariants.{LoneBackslash, NoMemory}
-
--- A star is `*`. Any character may stand after a backslash, and one that is neither `*` nor `\` may stand alone.
-abbrev pub SpellsPiece : Piece → List ℕ → Type 0
-SpellsPiece Star cs = cs ≡ codes "*"
-SpellsPiece (Literal c) cs = ((c ≢ 42) × (c ≢ 92) × (cs ≡ c ∷ [])) ⊎ (cs ≡ 92 ∷ c ∷ [])
-
-abbrev pub SpellsPieces : List Piece → List ℕ → Type 0
-SpellsPieces [] cs = cs ≡ []
-SpellsPieces (piece ∷ pieces) cs = (first : List ℕ) × (rest : List ℕ) × (cs ≡ first ++ rest) × SpellsPiece piece first × SpellsPieces pieces rest
-
--- the bytes of a text whose characters spell the pieces
-abbrev pub Spells : List Piece → List ℕ → Type 0
-Spells pieces text = SpellsPieces pieces (chars text)
-
-abbrev pub with_piece : Piece → Option (List Piece) → Option (List Piece)
-with_piece piece = option_map (λ pieces. piece ∷ pieces)
-
--- the pieces that characters spell, if they spell some, where the flag says that a backslash stands before them
-abbrev pub pieces_of : Bool → List ℕ → Option (List Piece)
-pieces_of false [] = Some []
-pieces_of true [] = None
-pieces_of true (c ∷ cs) = with_piece (Literal c) (pieces_of false cs)
-pieces_of false (c ∷ cs) = if c == 42 then with_piece Star (pieces_of false cs) else (if c == 92 then pieces_of true cs else with_piece (Literal c) (pieces_of false cs))
-
-abbrev pub pattern_of : List ℕ → Option (List Piece)
-pattern_of text = pieces_of false (chars text)
 
 -- what a reader answers, unless memory runs out
 abbrev pub Reads : Result Pattern PatternError → Option (List Piece) → Type 0
 Reads (Ok pattern) found = found ≡ Some pattern
 Reads (Err LoneBackslash) found = found ≡ None
 Reads (Err NoMemory) found = Unit {0}
-
--- the canonical text, with a backslash where it is needed alone
-abbrev pub piece_text : Piece → List ℕ
-piece_text Star = codes "*"
-piece_text (Literal c) = if (c == 42) || (c == 92) then codes "\\" ++ encode_utf8 c else encode_utf8 c
-
-abbrev pub pattern_text : List Piece → List ℕ
-pattern_text = flat_map piece_text
 
 -- the pieces that were read, and then those that are left
 abbrev pub after : List Piece → Option (List Piece) → Option (List Piece)

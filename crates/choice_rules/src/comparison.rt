@@ -1,12 +1,12 @@
 ghost use Rattle.std.specs.Prelude.{◌≡◌};
 ghost use Rattle.choice_rules.specs.Compared.{is_of_kind as of_kind, is_sound as sound};
-ghost use Rattle.unum_json.specs.declared.value.Json.{out-Json};
-ghost use Rattle.choice_rules.specs.Comparing.{holds as holds_at, relates as related};
+ghost use Rattle.unum_json.specs.Seen.{shape_of};
+ghost use Rattle.choice_rules.specs.Comparing.{holds as holds_at, relates as related, relates_at};
 
 use asl_paths::Path;
 use std::cmp::Ordering;
 use std::marker::Model;
-use unum_json::Json;
+use unum_json::{Json, Seen};
 
 /// What a comparison is about.
 #[derive(Clone, Copy, Debug, PartialEq, Eq)]
@@ -72,13 +72,13 @@ impl Model for Comparison {
 }
 
 /// Whether a value is a text, a number or a truth value, as the kind says.
-fn is_of_kind(kind: OpKind, value: &Json) -> bool
-    ensures { result ≡ of_kind kind (out-Json value.now) }
+fn is_of_kind(kind: OpKind, value: Seen<'_>) -> bool
+    ensures { result ≡ of_kind kind (shape_of value.entry) }
 {
     match (kind, value) {
-        (OpKind::Text, Json::Str(_)) => true,
-        (OpKind::Number, Json::Int(_)) => true,
-        (OpKind::Truth, Json::Bool(_)) => true,
+        (OpKind::Text, Seen::Str(_)) => true,
+        (OpKind::Number, Seen::Int(_)) => true,
+        (OpKind::Truth, Seen::Bool(_)) => true,
         _ => false,
     }
 }
@@ -91,7 +91,7 @@ pub fn is_sound(kind: OpKind, rel: Rel, operand: &Operand) -> bool
         return false;
     }
     match operand {
-        Operand::Constant(value) => is_of_kind(kind, value),
+        Operand::Constant(value) => is_of_kind(kind, value.seen()),
         Operand::Found(_) => true,
     }
 }
@@ -113,12 +113,18 @@ fn holds(rel: Rel, order: Ordering) -> bool
 pub(crate) fn relates(kind: OpKind, rel: Rel, left: &Json, right: &Json) -> bool
     ensures { result ≡ related kind rel left.now right.now }
 {
+    relates_seen(kind, rel, left.seen(), right.seen())
+}
+
+fn relates_seen(kind: OpKind, rel: Rel, left: Seen<'_>, right: Seen<'_>) -> bool
+    ensures { result ≡ relates_at kind rel (shape_of left.entry) (shape_of right.entry) }
+{
     match (kind, left, right) {
-        (OpKind::Text, Json::Str(left), Json::Str(right)) => {
+        (OpKind::Text, Seen::Str(left), Seen::Str(right)) => {
             holds(rel, left.as_bytes().cmp(right.as_bytes()))
         }
-        (OpKind::Number, Json::Int(left), Json::Int(right)) => holds(rel, left.cmp(right)),
-        (OpKind::Truth, Json::Bool(left), Json::Bool(right)) => *left == *right,
+        (OpKind::Number, Seen::Int(left), Seen::Int(right)) => holds(rel, left.cmp(&right)),
+        (OpKind::Truth, Seen::Bool(left), Seen::Bool(right)) => left == right,
         _ => false,
     }
 }

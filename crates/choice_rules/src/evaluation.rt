@@ -1,11 +1,13 @@
 ghost use Rattle.std.specs.Prelude.{◌≡◌, map, option_copied};
+ghost use Rattle.unum_json.specs.Seen.{shape_of};
 ghost use Rattle.choice_rules.specs.Evaluating.{is_null as null_at, is_numeric as numeric_at, is_string as string_at, is_boolean as boolean_at, is_text_of, operand_in, compared, asked, tested, all_hold, some_holds, matches as matched, matches_in};
 
 use crate::comparison::{Comparison, Operand, relates};
 use crate::failure::PathFailure;
+use crate::pattern::Pattern;
 use crate::rule::{Op, Rule};
 use asl_paths::Path;
-use unum_json::Json;
+use unum_json::{Json, Seen};
 
 /// What stands on the right of a comparison.
 fn find_operand<'a>(operand: &'a Operand, value: &'a Json) -> Option<&'a Json>
@@ -27,21 +29,52 @@ fn compare(comparison: &Comparison, value: &Json, found: &Json) -> Result<bool, 
     }
 }
 
+fn is_null(found: Seen<'_>) -> bool
+    ensures { result ≡ null_at (shape_of found.entry) }
+{
+    matches!(found, Seen::Null)
+}
+
+fn is_numeric(found: Seen<'_>) -> bool
+    ensures { result ≡ numeric_at (shape_of found.entry) }
+{
+    matches!(found, Seen::Int(_))
+}
+
+fn is_string(found: Seen<'_>) -> bool
+    ensures { result ≡ string_at (shape_of found.entry) }
+{
+    matches!(found, Seen::Str(_))
+}
+
+fn is_boolean(found: Seen<'_>) -> bool
+    ensures { result ≡ boolean_at (shape_of found.entry) }
+{
+    matches!(found, Seen::Bool(_))
+}
+
+/// Whether a value is a text that a pattern matches.
+fn is_matched(pattern: &Pattern, found: Seen<'_>) -> bool
+    ensures { result ≡ is_text_of pattern.now (shape_of found.entry) }
+{
+    match found {
+        Seen::Str(text) => pattern.matches(text.as_str()),
+        _ => false,
+    }
+}
+
 /// What an operator answers for what the variable found.
 fn ask(op: &Op, value: &Json, found: &Json) -> Result<bool, PathFailure>
     ensures { result ≡ asked op.now value.now found.now }
 {
     match op {
         Op::Compare(comparison) => compare(comparison, value, found),
-        Op::Matches(pattern) => match found {
-            Json::Str(text) => Ok(pattern.matches(text.as_str())),
-            _ => Ok(false),
-        },
-        Op::IsNull(flag) => Ok(matches!(found, Json::Null) == *flag),
+        Op::Matches(pattern) => Ok(is_matched(pattern, found.seen())),
+        Op::IsNull(flag) => Ok(is_null(found.seen()) == *flag),
         Op::IsPresent(flag) => Ok(*flag),
-        Op::IsNumeric(flag) => Ok(matches!(found, Json::Int(_)) == *flag),
-        Op::IsString(flag) => Ok(matches!(found, Json::Str(_)) == *flag),
-        Op::IsBoolean(flag) => Ok(matches!(found, Json::Bool(_)) == *flag),
+        Op::IsNumeric(flag) => Ok(is_numeric(found.seen()) == *flag),
+        Op::IsString(flag) => Ok(is_string(found.seen()) == *flag),
+        Op::IsBoolean(flag) => Ok(is_boolean(found.seen()) == *flag),
     }
 }
 

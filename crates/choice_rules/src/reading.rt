@@ -1,4 +1,4 @@
-ghost use Rattle.std.specs.Prelude.{◌≡◌, ◌++◌, List, Err, IfOk, OnOk, string_bytes};
+ghost use Rattle.std.specs.Prelude.{◌≡◌, ◌++◌, List, Err, Some, IfOk, OnOk, string_bytes};
 ghost use Rattle.choice_rules.specs.declared.pattern.Piece.{Piece};
 ghost use Rattle.choice_rules.specs.Patterns.{Spells, pattern_of, piece_text, pattern_text, Reads, ReadsOne};
 
@@ -98,9 +98,10 @@ impl Pattern {
 
     /// The canonical text, which has a backslash before `*` and `\` alone.
     pub fn spell(&self, alloc: Global) -> Result<Text, NoMemory>
-        ensures { IfOk result (λ t. t ≡ pattern_text self.now) }
+        ensures canonical { IfOk result (λ t. t ≡ pattern_text self.now) }
+        ensures reads_back { IfOk result (λ t. pattern_of t ≡ Some self.now) }
     {
         let text = spelled(alloc, self.pieces())?;
-        Ok(Text::from_string(text))
+        Ok(Text::from_string(text)?)
     }
 }

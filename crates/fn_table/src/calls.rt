@@ -1,10 +1,12 @@
 ghost use Rattle.std.specs.Prelude.{◌≡◌, IfOk};
-ghost use Rattle.fn_table.specs.Answers.{answer, summed, broken_with};
+ghost use Rattle.std.specs.Option.{option_and_then};
+ghost use Rattle.unum_json.specs.Seen.{shape_of};
+ghost use Rattle.fn_table.specs.Answers.{answer, items_in, summed, total_of, broken_with};
 
 use crate::adding::sum_up;
 use crate::kind::FnKind;
 use std::alloc::Global;
-use unum_json::{Fault, Json, NoMemory, Outcome, Text, copy, copy_fault};
+use unum_json::{Fault, Json, NoMemory, Outcome, Seen, Text, copy, copy_fault};
 
 /// The failure of a function that broke, with this cause.
 fn broken(alloc: Global, cause: &str) -> Result<Outcome, NoMemory>
@@ -15,16 +17,22 @@ fn broken(alloc: Global, cause: &str) -> Result<Outcome, NoMemory>
     Ok(Outcome::Failed(Fault { error, cause }))
 }
 
+/// The total of the items of an array.
+fn total_in(value: Seen<'_>) -> Option<i64>
+    ensures { result ≡ option_and_then total_of (items_in (shape_of value.entry)) }
+{
+    match value {
+        Seen::Arr(items) => sum_up(items.as_slice()),
+        _ => None,
+    }
+}
+
 /// What `sum` answers.
 fn call_sum(alloc: Global, input: &Json) -> Result<Outcome, NoMemory>
     ensures { IfOk result (λ o. o ≡ summed input.now) }
 {
-    let total = match input {
-        Json::Arr(items) => sum_up(items.as_slice()),
-        _ => None,
-    };
-    match total {
-        Some(total) => Ok(Outcome::Done(Json::Int(total))),
+    match total_in(input.seen()) {
+        Some(total) => Ok(Outcome::Done(Json::whole(total))),
         None => broken(alloc, "sum"),
     }
 }
@@ -48,7 +56,7 @@ pub fn call(alloc: Global, kind: &FnKind, input: &Json, ticket: u32) -> Result<O
         FnKind::Echo => Ok(Outcome::Done(copy(alloc, input)?)),
         FnKind::Const(value) => Ok(Outcome::Done(copy(alloc, value)?)),
         FnKind::Sum => call_sum(alloc, input),
-        FnKind::Ticket => Ok(Outcome::Done(Json::Int(ticket as i64))),
+        FnKind::Ticket => Ok(Outcome::Done(Json::whole(ticket as i64))),
         FnKind::Flaky(every) => {
             if ticket.is_multiple_of(*every) {
                 broken(alloc, "flaky")

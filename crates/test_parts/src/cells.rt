@@ -2,7 +2,7 @@
 
 use crate::refused::{Refused, Told};
 use std::alloc::{AllocError, Global};
-use unum_json::{Items, Json, Text, read, to_json, to_text};
+use unum_json::{Fields, Items, Json, Seen, Text, copy_items, read, to_json, to_text};
 
 /// The first word, and what stands behind the blank after it.
 pub fn word(text: &str) -> (&str, &str) {
@@ -22,15 +22,46 @@ pub fn cells_in(alloc: Global, text: &str) -> Result<Items<Json>, Refused> {
     let text = format!(in alloc; "[{text}]")?;
     let cells = json(alloc, text.as_bytes());
     drop(text);
-    match cells {
-        Ok(Json::Arr(cells)) => Ok(cells),
+    let cells = cells?;
+    let list = list_of(alloc, &cells);
+    drop(cells);
+    list
+}
+
+fn list_of(alloc: Global, cell: &Json) -> Result<Items<Json>, Refused> {
+    match cell.seen() {
+        Seen::Arr(cells) => Ok(copy_items(alloc, cells)?),
+        _ => Err(Refused::NoCase),
+    }
+}
+
+/// The cells of a list.
+pub fn list_in(cell: &Json) -> Result<&[Json], Refused> {
+    match cell.seen() {
+        Seen::Arr(cells) => Ok(cells.as_slice()),
+        _ => Err(Refused::NoCase),
+    }
+}
+
+/// The members of an object.
+pub fn members_in(cell: &Json) -> Result<&Fields<Json>, Refused> {
+    match cell.seen() {
+        Seen::Obj(fields) => Ok(fields),
+        _ => Err(Refused::NoCase),
+    }
+}
+
+/// The text of a cell.
+pub fn text_in(cell: &Json) -> Result<&Text, Refused> {
+    match cell.seen() {
+        Seen::Str(text) => Ok(text),
         _ => Err(Refused::NoCase),
     }
 }
 
 pub fn number(cell: &Json) -> Result<u32, Refused> {
-    match cell {
-        Json::Int(n) => u32::try_from(*n).ok().ok_or(Refused::NoCase),
+    match cell.seen() {
+        Seen::Int(n) => u32::try_from(n).ok().ok_or(Refused::NoCase),
         _ => Err(Refused::NoCase),
     }
 }
@@ -55,15 +86,15 @@ pub fn numbers(alloc: Global, cells: &[Json]) -> Result<Vec<u32>, Refused> {
 
 /// Adds the bytes of a text, or the byte with a number.
 fn push_part(out: &mut Vec<u8>, part: &Json) -> Result<(), AllocError> {
-    match part {
-        Json::Str(text) => out.extend_from_slice(text.as_bytes()),
-        Json::Int(n) => out.extend_from_slice(&[u8::try_from(*n).unwrap_or(b'?')]),
+    match part.seen() {
+        Seen::Str(text) => out.extend_from_slice(text.as_bytes()),
+        Seen::Int(n) => out.extend_from_slice(&[u8::try_from(n).unwrap_or(b'?')]),
         _ => Ok(()),
     }
 }
 
 fn push_parts(out: &mut Vec<u8>, cell: &Json) -> Result<(), AllocError> {
-    let Json::Arr(parts) = cell else {
+    let Seen::Arr(parts) = cell.seen() else {
         return push_part(out, cell);
     };
     for part in parts.as_slice() {
@@ -96,7 +127,7 @@ pub fn said_same(alloc: Global, is_same: bool) -> Told {
 
 /// The text that was formatted.
 pub fn formatted(text: Result<String, AllocError>) -> Told {
-    Ok(Text::from_string(text?))
+    Ok(Text::from_string(text?)?)
 }
 
 /// The text in quotes.

@@ -5,12 +5,12 @@
 //! - `function find NAME, [[NAME,FUNCTION],..]`: the names of the table in which these were set in turn, and the numbers of the
 //!   rows with the function that is found.
 
-use crate::cells::{number, said_same};
+use crate::cells::{list_in, number, said_same, text_in};
 use crate::refused::{Refused, Told};
 use crate::values::{failure, shown_outcome};
 use fn_table::{Answered, BuiltIns, FnKind, Functions, Table, copy_kind, same_kind};
 use std::alloc::{AllocError, Global};
-use unum_json::{Json, Text, copy, copy_text, same};
+use unum_json::{Json, Seen, Text, copy, copy_text, same};
 
 fn simple(name: &str) -> Option<FnKind> {
     match name {
@@ -31,9 +31,9 @@ fn made(alloc: Global, name: &str, value: &Json) -> Result<FnKind, Refused> {
 }
 
 fn function_in(alloc: Global, cell: &Json) -> Result<FnKind, Refused> {
-    match cell {
-        Json::Str(name) => simple(name.as_str()).ok_or(Refused::NoCase),
-        Json::Obj(fields) => match fields.as_slice() {
+    match cell.seen() {
+        Seen::Str(name) => simple(name.as_str()).ok_or(Refused::NoCase),
+        Seen::Obj(fields) => match fields.as_slice() {
             [(name, value)] => made(alloc, name.as_str(), value),
             _ => Err(Refused::NoCase),
         },
@@ -87,11 +87,8 @@ fn is_copy(alloc: Global, left: &Json, right: &Json) -> Told {
 }
 
 fn row(cell: &Json) -> Result<(&Text, &Json), Refused> {
-    let Json::Arr(parts) = cell else {
-        return Err(Refused::NoCase);
-    };
-    match parts.as_slice() {
-        [Json::Str(name), function] => Ok((name, function)),
+    match list_in(cell)? {
+        [name, function] => Ok((text_in(name)?, function)),
         _ => Err(Refused::NoCase),
     }
 }
@@ -174,7 +171,7 @@ fn find_in(alloc: Global, out: &mut String, name: &[u8], rows: &[Json]) -> Resul
 fn found(alloc: Global, name: &[u8], rows: &[Json]) -> Told {
     let mut out = String::new(alloc);
     let written = find_in(alloc, &mut out, name, rows);
-    let text = Text::from_string(out);
+    let text = Text::from_string(out)?;
     match written {
         Ok(()) => Ok(text),
         Err(refused) => {
@@ -189,9 +186,7 @@ pub fn function(alloc: Global, verb: &str, cells: &[Json]) -> Told {
     match (verb, cells) {
         ("answer", [kind, input, ticket]) => answered(alloc, kind, input, ticket),
         ("same", [left, right]) => is_copy(alloc, left, right),
-        ("find", [Json::Str(name), Json::Arr(rows)]) => {
-            found(alloc, name.as_bytes(), rows.as_slice())
-        }
+        ("find", [name, rows]) => found(alloc, text_in(name)?.as_bytes(), list_in(rows)?),
         _ => Err(Refused::NoCase),
     }
 }

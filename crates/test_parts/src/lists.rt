@@ -4,20 +4,17 @@
 //! - `list items [NUMBER,..], [NUMBER,..], NUMBER`: what comes of appending, popping the last, setting the first, and removing
 //!   the second.
 
-use crate::cells::{formatted, number, numbers};
+use crate::cells::{formatted, list_in, number, numbers, text_in};
 use crate::refused::{Refused, Told};
 use std::alloc::{AllocError, Global};
 use unum_json::{Fields, Items, Json, NoMemory, Text, copy_text};
 
 fn insert(alloc: Global, fields: &mut Fields<u32>, pair: &Json) -> Result<(), Refused> {
-    let Json::Arr(pair) = pair else {
-        return Err(Refused::NoCase);
-    };
-    let [Json::Str(key), value] = pair.as_slice() else {
+    let [key, value] = list_in(pair)? else {
         return Err(Refused::NoCase);
     };
     let value = number(value)?;
-    let key = copy_text(alloc, key)?;
+    let key = copy_text(alloc, text_in(key)?)?;
     Ok(fields.insert(key, value)?)
 }
 
@@ -51,7 +48,7 @@ fn fields(alloc: Global, pairs: &[Json], key: &str) -> Told {
     let inserted = insert_all(alloc, &mut fields, pairs);
     let mut out = String::new(alloc);
     let written = listed(&mut out, fields, key);
-    let text = Text::from_string(out);
+    let text = Text::from_string(out)?;
     match (inserted, written) {
         (Ok(()), Ok(())) => Ok(text),
         _ => {
@@ -114,12 +111,8 @@ fn items(alloc: Global, first: &[Json], more: &[Json], put: &Json) -> Told {
 /// What a case of lists comes to.
 pub fn list(alloc: Global, verb: &str, cells: &[Json]) -> Told {
     match (verb, cells) {
-        ("fields", [Json::Arr(pairs), Json::Str(key)]) => {
-            fields(alloc, pairs.as_slice(), key.as_str())
-        }
-        ("items", [Json::Arr(first), Json::Arr(more), put]) => {
-            items(alloc, first.as_slice(), more.as_slice(), put)
-        }
+        ("fields", [pairs, key]) => fields(alloc, list_in(pairs)?, text_in(key)?.as_str()),
+        ("items", [first, more, put]) => items(alloc, list_in(first)?, list_in(more)?, put),
         _ => Err(Refused::NoCase),
     }
 }

@@ -9,7 +9,7 @@
 //!   `saved`, `bits` or `arg`, and the count is that of bits;
 //! - `name trail COUNT`: a trail to which so many segments were added, as far as there is room.
 
-use crate::cells::{formatted, number, said, said_same};
+use crate::cells::{formatted, list_in, number, said, said_same, text_in};
 use crate::refused::{Refused, Told};
 use place_name::{
     Kind, MOST_BRANCHES, Name, Obj, Place, Seg, Trail, child, order, parse, spell, up,
@@ -19,10 +19,7 @@ use std::cmp::Ordering;
 use unum_json::Json;
 
 fn name_in(cell: &Json) -> Result<Name, Refused> {
-    match cell {
-        Json::Str(text) => Ok(parse(text.as_bytes())?),
-        _ => Err(Refused::NoCase),
-    }
+    Ok(parse(text_in(cell)?.as_bytes())?)
 }
 
 fn spelled(alloc: Global, name: &Name) -> Told {
@@ -91,12 +88,10 @@ fn scopes(alloc: Global, left: &Json, right: &Json) -> Told {
 }
 
 fn object_in(cell: &Json) -> Result<Obj, Refused> {
-    let Json::Arr(parts) = cell else {
+    let [kind, name, count] = list_in(cell)? else {
         return Err(Refused::NoCase);
     };
-    let [Json::Str(kind), name, count] = parts.as_slice() else {
-        return Err(Refused::NoCase);
-    };
+    let kind = text_in(kind)?;
     let name = name_in(name)?;
     let count = number(count)?;
     match kind.as_str() {

@@ -8,7 +8,7 @@
 //! - `template fill VALUE, VALUE`: what a copy of a plain template is filled to from a value;
 //! - `template fill-plain VALUE, VALUE, VALUE, INDEX`, `template fill-item ..`: so too from a value and an item.
 
-use crate::cells::{bytes, formatted, number, quoted, said, shown};
+use crate::cells::{bytes, formatted, number, quoted, said, shown, text_in};
 use crate::refused::{Refused, Told};
 use asl_paths::{Item, Path, Template, TemplateError, copy_path, copy_template};
 use std::alloc::Global;
@@ -16,10 +16,7 @@ use unum_json::{Json, to_text};
 
 /// The path that a text spells.
 pub fn path_in(alloc: Global, cell: &Json) -> Result<Path, Refused> {
-    match cell {
-        Json::Str(text) => Ok(Path::parse(alloc, text.as_bytes())?),
-        _ => Err(Refused::NoCase),
-    }
+    Ok(Path::parse(alloc, text_in(cell)?.as_bytes())?)
 }
 
 fn spelled(alloc: Global, path: &Path) -> Told {
@@ -94,7 +91,7 @@ fn template_in(alloc: Global, value: &Json, item: bool) -> Result<Template, Refu
 }
 
 fn fill(alloc: Global, template: &Template, value: &Json, item: Option<Item<'_>>) -> Told {
-    if template.item && item.is_none() {
+    if template.item() && item.is_none() {
         return Err(Refused::NoCase);
     }
     shown(alloc, template.fill(alloc, value, item)?)

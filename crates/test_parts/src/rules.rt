@@ -6,7 +6,7 @@
 //! - `pattern long PATTERN, LETTERS, TIMES`: how often it matches a text of so many letters, of so many times;
 //! - `pattern spell PATTERN`: its canonical text.
 
-use crate::cells::{formatted, number, quoted, said};
+use crate::cells::{formatted, list_in, members_in, number, quoted, said, text_in};
 use crate::paths::path_in;
 use crate::refused::{Refused, Told};
 use choice_rules::{
@@ -15,16 +15,13 @@ use choice_rules::{
 };
 use sqlite_items::Boxed;
 use std::alloc::{AllocError, Global};
-use unum_json::{Fields, Json, copy};
+use unum_json::{Fields, Json, Seen, copy};
 
 /// How deep rules are read.
 const DEPTH: u32 = 9;
 
 fn pattern_in(alloc: Global, cell: &Json) -> Result<Pattern, Refused> {
-    match cell {
-        Json::Str(text) => Ok(Pattern::read(alloc, text.as_str())?),
-        _ => Err(Refused::NoCase),
-    }
+    Ok(Pattern::read(alloc, text_in(cell)?.as_str())?)
 }
 
 fn relation(name: &str) -> Option<Rel> {
@@ -85,8 +82,8 @@ fn fact(name: &str, flag: bool) -> Option<Op> {
 }
 
 fn operator(alloc: Global, name: &str, value: &Json) -> Result<Op, Refused> {
-    match value {
-        Json::Bool(flag) if name.starts_with("Is") => fact(name, *flag).ok_or(Refused::NoCase),
+    match value.seen() {
+        Seen::Bool(flag) if name.starts_with("Is") => fact(name, flag).ok_or(Refused::NoCase),
         _ if name == "StringMatches" => Ok(Op::Matches(pattern_in(alloc, value)?)),
         _ => comparison(alloc, name, value),
     }
@@ -122,11 +119,9 @@ fn push_rules(
 
 #[cycle(rules)]
 fn rules_in(alloc: Global, depth: u32, cell: &Json) -> Result<Vec<Rule>, Refused> {
-    let Json::Arr(cells) = cell else {
-        return Err(Refused::NoCase);
-    };
+    let cells = list_in(cell)?;
     let mut rules = Vec::new(alloc);
-    match push_rules(alloc, depth, &mut rules, cells.as_slice()) {
+    match push_rules(alloc, depth, &mut rules, cells) {
         Ok(()) => Ok(rules),
         Err(refused) => {
             drop(rules);
@@ -157,9 +152,7 @@ fn joined(alloc: Global, depth: u32, name: &str, cell: &Json) -> Result<Rule, Re
 
 #[cycle(rules)]
 fn rule_in(alloc: Global, depth: u32, cell: &Json) -> Result<Rule, Refused> {
-    let Json::Obj(fields) = cell else {
-        return Err(Refused::NoCase);
-    };
+    let fields = members_in(cell)?;
     match fields.as_slice() {
         [(name, cell)] if depth > 0 => joined(alloc, depth - 1, name.as_str(), cell),
         _ => test(alloc, fields),
@@ -258,7 +251,7 @@ fn pattern_spell(alloc: Global, pattern: &Json) -> Told {
 /// What a case of patterns comes to.
 pub fn pattern(alloc: Global, verb: &str, cells: &[Json]) -> Told {
     match (verb, cells) {
-        ("match", [pattern, Json::Str(text)]) => pattern_match(alloc, pattern, text.as_str()),
+        ("match", [pattern, text]) => pattern_match(alloc, pattern, text_in(text)?.as_str()),
         ("long", [pattern, letters, times]) => pattern_long(alloc, pattern, letters, times),
         ("spell", [pattern]) => pattern_spell(alloc, pattern),
         _ => Err(Refused::NoCase),

@@ -10,7 +10,7 @@ use crate::refused::{Refused, Told};
 use asl_paths::{Path, Template};
 use asl_shape::{Shape, ShapeError, copy_shape, post, prep};
 use std::alloc::Global;
-use unum_json::Json;
+use unum_json::{Json, Seen};
 
 fn told(alloc: Global, answer: Result<Json, ShapeError>) -> Told {
     match answer {
@@ -20,8 +20,8 @@ fn told(alloc: Global, answer: Result<Json, ShapeError>) -> Told {
 }
 
 fn path(alloc: Global, cell: &Json) -> Option<Path> {
-    match cell {
-        Json::Str(text) => Path::parse(alloc, text.as_bytes()).ok(),
+    match cell.seen() {
+        Seen::Str(text) => Path::parse(alloc, text.as_bytes()).ok(),
         _ => None,
     }
 }

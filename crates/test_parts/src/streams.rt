@@ -8,7 +8,7 @@
 //! - `sink memory TEXT, [CALL,..], ROOM`, `sink device CALL, STEP`, `sink gauge`: so too of writing all.
 ghost use Rattle.std.specs.Prelude.{None};
 
-use crate::cells::{bytes, formatted, number, numbers, said};
+use crate::cells::{bytes, formatted, list_in, number, numbers, said, text_in};
 use crate::refused::{Refused, Told};
 use std::alloc::Global;
 use std::io::{self, ErrorKind};
@@ -16,7 +16,7 @@ use unum_io::{
     Bytes, Failed, MemSink, MemSource, ReadAll, Sink, Source, StdSink, StdSource, read_all,
     write_all,
 };
-use unum_json::Json;
+use unum_json::{Json, Seen};
 
 /// What was read, which is to be these bytes.
 fn all_read(alloc: Global, answer: Result<Bytes, ReadAll>, wanted: &[u8]) -> Told {
@@ -30,8 +30,8 @@ fn all_read(alloc: Global, answer: Result<Bytes, ReadAll>, wanted: &[u8]) -> Tol
 }
 
 fn most(cell: &Json) -> u64 {
-    match cell {
-        Json::Int(n) => u64::try_from(*n).unwrap_or(0),
+    match cell.seen() {
+        Seen::Int(n) => u64::try_from(n).unwrap_or(0),
         _ => u64::MAX,
     }
 }
@@ -211,12 +211,8 @@ fn write_gauge(alloc: Global) -> Told {
 /// What a case of sources comes to.
 pub fn source(alloc: Global, verb: &str, cells: &[Json]) -> Told {
     match (verb, cells) {
-        ("memory", [given, Json::Arr(calls), last]) => {
-            read_bytes(alloc, given, calls.as_slice(), most(last))
-        }
-        ("long", [count, Json::Arr(calls), last]) => {
-            read_long(alloc, count, calls.as_slice(), most(last))
-        }
+        ("memory", [given, calls, last]) => read_bytes(alloc, given, list_in(calls)?, most(last)),
+        ("long", [count, calls, last]) => read_long(alloc, count, list_in(calls)?, most(last)),
         ("device", [call]) => read_device(alloc, call),
         ("gauge", [count]) => read_gauge(alloc, count),
         _ => Err(Refused::NoCase),
@@ -226,8 +222,8 @@ pub fn source(alloc: Global, verb: &str, cells: &[Json]) -> Told {
 /// What a case of sinks comes to.
 pub fn sink(alloc: Global, verb: &str, cells: &[Json]) -> Told {
     match (verb, cells) {
-        ("memory", [Json::Str(text), Json::Arr(calls), room]) => {
-            write_memory(alloc, text.as_bytes(), calls.as_slice(), room)
+        ("memory", [text, calls, room]) => {
+            write_memory(alloc, text_in(text)?.as_bytes(), list_in(calls)?, room)
         }
         ("device", [call, step]) => write_device(alloc, call, step),
         ("gauge", []) => write_gauge(alloc),

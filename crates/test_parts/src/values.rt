@@ -9,12 +9,14 @@
 //!   `{"fail":[ERROR,CAUSE]}`;
 //! - `outcome copy BYTES`, `outcome new`: a copy of a text, and its length.
 
-use crate::cells::{bytes, formatted, json, number, quoted, said_same, shown};
+use crate::cells::{
+    bytes, formatted, json, list_in, members_in, number, quoted, said_same, shown, text_in,
+};
 use crate::refused::{Refused, Told};
 use std::alloc::Global;
 use unum_json::{
-    Fault, Items, Json, NoMemory, Outcome, Text, WholeError, copy, copy_outcome, copy_text, depth,
-    is_small, nodes, outcome_json, read, same, same_outcome, same_text, to_json, to_text,
+    Fault, Items, Json, NoMemory, Outcome, Text, WholeError, array, copy, copy_outcome, copy_text,
+    depth, is_small, nodes, outcome_json, read, same, same_outcome, same_text, to_json, to_text,
 };
 
 /// Whether bytes spell a value.
@@ -72,7 +74,7 @@ fn size(alloc: Global, value: &Json) -> Told {
 
 fn push_nulls(items: &mut Items<Json>, count: u32) -> Result<(), NoMemory> {
     for _ in 0..count {
-        items.push(Json::Null)?;
+        items.push(Json::null())?;
     }
     Ok(())
 }
@@ -81,7 +83,7 @@ fn wide(alloc: Global, count: &Json) -> Told {
     let count = number(count)?;
     let mut items = Items::new(alloc);
     let pushed = push_nulls(&mut items, count);
-    let value = Json::Arr(items);
+    let value = array(alloc, items)?;
     let told = size(alloc, &value);
     drop(value);
     pushed?;
@@ -89,11 +91,11 @@ fn wide(alloc: Global, count: &Json) -> Told {
 }
 
 fn nested(alloc: Global, count: u32) -> Result<Json, NoMemory> {
-    let mut value = Json::Arr(Items::new(alloc));
+    let mut value = array(alloc, Items::new(alloc))?;
     for _ in 1..count {
         let mut items = Items::new(alloc);
         items.push(value)?;
-        value = Json::Arr(items);
+        value = array(alloc, items)?;
     }
     Ok(value)
 }
@@ -149,19 +151,14 @@ fn fault(alloc: Global, error: &Text, cause: &Text) -> Result<Fault, NoMemory> {
 
 /// The failure with an error and a cause.
 pub fn failure(alloc: Global, cell: &Json) -> Result<Fault, Refused> {
-    let Json::Arr(parts) = cell else {
-        return Err(Refused::NoCase);
-    };
-    match parts.as_slice() {
-        [Json::Str(error), Json::Str(cause)] => Ok(fault(alloc, error, cause)?),
+    match list_in(cell)? {
+        [error, cause] => Ok(fault(alloc, text_in(error)?, text_in(cause)?)?),
         _ => Err(Refused::NoCase),
     }
 }
 
 fn outcome_in(alloc: Global, cell: &Json) -> Result<Outcome, Refused> {
-    let Json::Obj(fields) = cell else {
-        return Err(Refused::NoCase);
-    };
+    let fields = members_in(cell)?;
     if let Some(value) = fields.get(b"ok") {
         return Ok(Outcome::Done(copy(alloc, value)?));
     }

@@ -15,7 +15,7 @@ fn words(rt: &(impl Env + AllocGlobal), alloc: Global) -> Result<Items<Text>, No
     let mut words = Items::new(alloc);
     if let Ok(args) = env::args(rt) {
         for arg in args.skip(1) {
-            words.push(Text::from_string(arg))?;
+            words.push(Text::from_string(arg)?)?;
         }
     }
     Ok(words)

@@ -95,13 +95,14 @@ fn other_machine<'a>(machines: &'a [(Text, Machine)], sessions: &[Session]) -> O
     None
 }
 
-fn refused(at: String) -> BundleError
-    ensures { result ≡ BundleError.Refused (Refusal.One (RuleCode.Reading LRule.L5) (string_bytes at)) }
+fn refused(at: String) -> Result<BundleError, AllocError>
+    ensures { IfOk result (λ e. e ≡ BundleError.Refused (Refusal.One (RuleCode.Reading LRule.L5) (string_bytes at))) }
 {
-    BundleError::Refused(Refusal::One {
+    let at = Text::from_string(at)?;
+    Ok(BundleError::Refused(Refusal::One {
         rule: RuleCode::Reading(LRule::L5),
-        at: Text::from_string(at),
-    })
+        at,
+    }))
 }
 
 fn machine_place(alloc: Global, name: &Text) -> Result<String, AllocError>
@@ -140,7 +141,7 @@ fn only_one_session(alloc: Global) -> Result<Opening, BundleError>
     ensures opens { Opens result (Err (Refusal.One (RuleCode.Reading LRule.L5) (codes "/sessions"))) }
     ensures fits { IfOk result (λ o. Fits o 10000000) }
 {
-    Err(refused(String::from_str(alloc, "/sessions")?))
+    Err(refused(String::from_str(alloc, "/sessions")?)?)
 }
 
 /// The opening of the session with that input, whose machine is a chain.
@@ -185,7 +186,7 @@ fn opening_for(
             if is_chain(&machine) {
                 return Ok(opening_of_chain(alloc, name, machine, table, input, plan)?);
             }
-            Err(refused(machine_place(alloc, &name)?))
+            Err(refused(machine_place(alloc, &name)?)?)
         }
         None => only_one_session(alloc),
     }
@@ -232,7 +233,7 @@ pub fn runnable(alloc: Global, bundle: Bundle) -> Result<Opening, BundleError>
     match other_name(alloc, &bundle) {
         Ok(Some(name)) => {
             drop(bundle);
-            Err(refused(machine_place(alloc, &name)?))
+            Err(refused(machine_place(alloc, &name)?)?)
         }
         Ok(None) => opening_alone(alloc, open_bundle(bundle)),
         Err(_) => {

@@ -52,7 +52,7 @@ fn valid_name(rule: VRule) -> &'static str
 fn push_quoted(alloc: Global, out: &mut String, text: &Text) -> Result<(), NoMemory>
     ensures { OnOk result (string_bytes out.new ≡ string_bytes out.old ++ codes " " ++ quoted text.now) }
 {
-    let json = Json::Str(copy_text(alloc, text)?);
+    let json = Json::string(copy_text(alloc, text)?);
     let text = to_text(alloc, &json)?;
     out.push_str(" ")?;
     out.push_str(text.as_str())?;
@@ -105,5 +105,5 @@ pub fn refusal_text(alloc: Global, refusal: &Refusal) -> Result<Text, NoMemory>
 {
     let mut out = String::new(alloc);
     push_refusal(alloc, &mut out, refusal)?;
-    Ok(Text::from_string(out))
+    Ok(Text::from_string(out)?)
 }

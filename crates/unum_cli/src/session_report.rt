@@ -172,5 +172,5 @@ pub fn report(alloc: Global, world: &World) -> Result<Text, NoMemory>
     push_sessions(alloc, &mut out, world)?;
     push_entries(alloc, &mut out, world)?;
     push_totals(&mut out, world)?;
-    Ok(Text::from_string(out))
+    Ok(Text::from_string(out)?)
 }

@@ -49,5 +49,5 @@ pub fn valid_text(alloc: Global, bundle: &Bundle) -> Result<Text, NoMemory>
     push_number(&mut out, " states ", states)?;
     push_number(&mut out, " sessions ", bundle.sessions().len() as u64)?;
     out.push_str("\n")?;
-    Ok(Text::from_string(out))
+    Ok(Text::from_string(out)?)
 }

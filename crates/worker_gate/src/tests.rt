@@ -52,7 +52,7 @@ impl Engine for Calls {
         if let Some(ticket) = mine {
             return Pick::Call {
                 kind: FnKind::Ticket,
-                input: Json::Null,
+                input: Json::null(),
                 ticket,
             };
         }

@@ -1,8 +1,12 @@
-use Rattle.std.proofs.Common.{List, ℕ, ap, sym, ◌∙◌, ◌+◌}
+use Rattle.std.proofs.Common.{◌≡◌, List, ℕ, ap, sym, ◌∙◌, ◌+◌, rules, arith, subst}
 use Rattle.std.proofs.lemmas.Result.{err_from_is_err_and}
 use Rattle.unum_json.specs.Whole.{index_step, key_step, under}
+use Rattle.unum_json.specs.Seen.{shown}
+use Rattle.unum_json.specs.Tree.{nodes}
+use Rattle.unum_json.proofs.PartSizes.{item_falls, field_falls, items_fall, fields_fall}
 use Rattle.asl_paths.specs.declared.template.Part.{Part}
-use Rattle.asl_paths.specs.Templates.{part_of, parts_of, fields_of, all_seen, seen_of, path_beside}
+use Rattle.asl_paths.specs.Templates.{Reads, part_at, part_of, parts_of, fields_of, all_seen, seen_of, path_beside}
+use Rattle.asl_paths.proofs.PartLaws.{part_by_variant}
 use Rattle.asl_paths.proofs.TemplateSteps.{part_read, part_refused, going, field_read, field_refused, path_named, part_named, reads_err, adds_err}
 use Rattle.asl_paths.proofs.templating.+read.Goals as goal
 use Rattle.asl_paths.proofs.templating.+read.Goals.{read_fields-in-Some+in_ok-add-in-Some, read_fields-in-None+in_ok-add-in-None}
@@ -76,3 +80,26 @@ read_fields-loop-field-preserved t c =
           (part_named item seen items i f key c.as_str-key.ensures w.in-None.ensures) (w.in_ok-add-in-None.ensures made (w.at_key-made.ensures (part_of item f.1) w.read_part.ensures))
           ∙ ap (going item seen items i f (i + 1)) (sym w.parts-is)
     ]
+
+pub read_seen-read_items-requires : goal.read_seen-read_items-requires
+read_seen-read_items-requires t c = (omega (arith, c.decreases, items_fall (shown c.args.value) c.in-Arr.items.now (ap shown c.in-Arr.is)), tt)
+
+pub read_seen-read_fields-requires : goal.read_seen-read_fields-requires
+read_seen-read_fields-requires t c = (omega (arith, c.decreases, fields_fall (shown c.args.value) c.in-Obj.fields.now (ap shown c.in-Obj.is)), tt)
+
+pub read_items-read_part-requires : goal.read_items-read_part-requires
+read_items-read_part-requires t c =
+    (omega (arith, c.decreases, item_falls c.args.items.now c.as_slice-value-items.result.now c.loop-i.i c.value-item.result c.as_slice-value-items.ensures c.loop-i-test.true c.value-item.is), tt)
+
+pub read_fields-read_part-requires : goal.read_fields-read_part-requires
+read_fields-read_part-requires t c =
+    (omega (arith, c.decreases, field_falls c.args.fields.now c.as_slice-field-items.result.now c.loop-field.field-index c.field-item.result c.as_slice-field-items.ensures.value c.loop-field-test.true c.field-item.is), tt)
+
+pub read_part-read_seen-requires : goal.read_part-read_seen-requires
+read_part-read_seen-requires t c =
+    let e : nodes c.args.value.now ≡ nodes (shown c.seen.result) = ap nodes c.seen.ensures.tree in
+    (omega (arith, c.decreases, e), tt)
+
+pub read_part-returns : goal.read_part-returns
+read_part-returns t c =
+    subst (Reads (λ v. v) c.read_seen.result) (ap (part_at c.args.item) (sym c.seen.ensures.shape) ∙ sym (part_by_variant c.args.item c.args.value.now)) c.read_seen.ensures
