@@ -15,7 +15,7 @@ use Rattle.unum_world.specs.declared.planned.PlannedStep.{PlannedStep}
 use Rattle.unum_world.specs.Program.{next_of}
 use Rattle.unum_world.specs.Worlds.{Holds, Queued, World, perform, over, over_live, ended_try, changed, ack_state, crash_state, dead_state, try_state, tick_att, ticked, first_try, fresh, one_mark, planned_by, by_plan, by_answer, delivered, asked, effect, run, start, root_invs, root_states}
 use Rattle.unum_world.specs.Seen.{Bounded}
-use Rattle.world_model.proofs.Gets.{get_set, get_pushed}
+use Rattle.old_world.proofs.Gets.{get_set, get_pushed}
 use Rattle.unum_world.proofs.Runs.{run_counts, run_keeps, at_rule}
 
 -- ---------------------------------------------------------------- lists in which each number is bounded

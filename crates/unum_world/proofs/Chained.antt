@@ -34,7 +34,7 @@ use Rattle.unum_world.specs.declared.operation.Op.{Op}
 use Rattle.unum_world.specs.declared.operation.Op.TheVariants as op
 use Rattle.unum_world.specs.declared.operation.Reply.{Reply}
 use Rattle.unum_world.specs.declared.operation.Reply.TheVariants as reply
-use Rattle.world_model.specs.Acts.{parent_of, due_enter, due_of}
+use Rattle.old_world.specs.Acts.{parent_of, due_enter, due_of}
 use Rattle.unum_world.specs.Stretch.{call_of, join_around}
 use Rattle.unum_world.specs.Links.{IsChain}
 use Rattle.unum_world.specs.Program.{end_ops, acts_of, stop_of, acts, due, branch_input, next_of, doing_op, marking, calling, gathers, adopted, after_look, enters_with, read_as, after_data, after_create, next_act, after_set, after_act, after_mark, has_more, absorbed, answered}
@@ -42,7 +42,7 @@ use Rattle.unum_world.specs.Worlds.{Holds, Queued, World, machine_of, machine_at
 use Rattle.unum_world.specs.Plain.{IsPlainKind}
 use Rattle.unum_world.specs.Seen.{Fits}
 use Rattle.unum_world.specs.Chained.{IsChained, IsPhase, Placed, Chaining, Chained}
-use Rattle.world_model.proofs.Gets.{get_set}
+use Rattle.old_world.proofs.Gets.{get_set}
 use Rattle.unum_world.proofs.Lists.{get_some, get_old, get_last, get_set_same, get_changed, all_get}
 use Rattle.unum_world.proofs.Runs.{run_keeps, at_rule}
 use Rattle.unum_world.proofs.Bounds.{length_at, over_rule}

@@ -24,9 +24,9 @@ use Rattle.asl_model.proofs.Trees.{row, block_tree-out}
 use Rattle.std.proofs.Math.Dec.{eqb-suc-zero}
 use Rattle.std.proofs.lemmas.Slice.Eq.{bytes_eq-Decides}
 use Rattle.asl_model.proofs.Found.{same_text_itself}
-use Rattle.world_model.specs.Operations.{visited_at}
-use Rattle.world_model.specs.Acts.{rules}
-use Rattle.world_model.specs.Program as program
+use Rattle.old_world.specs.Operations.{visited_at}
+use Rattle.old_world.specs.Acts.{rules}
+use Rattle.old_world.specs.Program as program
 use Rattle.unum_world.specs.declared.stops.Stop.{Stop}
 use Rattle.unum_world.specs.declared.stops.Stop.TheVariants.{Call, Fan, End}
 use Rattle.unum_world.specs.Stretch.{Used, find_from, find, number_in, number_of, name_in, task_name, spot_by, by_number, after, call_of}

@@ -2,7 +2,7 @@
 use Rattle.std.proofs.Common.{ℕ, zero, suc, ◌≡◌, ◌⊎◌, inl, inr, refl, sym, ◌∙◌, ap, subst, arith, ◌<◌, length, Option, None, List, [], ◌∷◌, ◌++◌, slice_get, slice_set, Some}
 use Rattle.std.proofs.lemmas.Bool.{cases_eq}
 use Rattle.std.specs.List.{AllByRecursion}
-use Rattle.world_model.proofs.Gets.{get_set}
+use Rattle.old_world.proofs.Gets.{get_set}
 use Rattle.unum_world.specs.Worlds.{changed}
 use Rattle.std.proofs.lemmas.Option.{same_Some}
 

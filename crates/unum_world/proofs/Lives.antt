@@ -17,7 +17,7 @@ use Rattle.unum_world.specs.declared.operation.Op.TheVariants as op
 use Rattle.unum_world.specs.Program.{next_of}
 use Rattle.unum_world.specs.Worlds.{Holds, Queued, World, perform, ended_try, changed, ack_state, crash_state, dead_state, try_state, tick_att, ticked, first_try, fresh, planned_by, by_plan, by_answer, delivered, asked, effect, run}
 use Rattle.unum_world.specs.Chained.{live_among}
-use Rattle.world_model.proofs.Gets.{get_set}
+use Rattle.old_world.proofs.Gets.{get_set}
 use Rattle.unum_world.proofs.Lists.{get_last, get_changed, get_split}
 use Rattle.unum_world.proofs.Runs.{run_keeps, at_rule}
 use Rattle.unum_world.proofs.Bounds.{length_at, over_rule, root_fresh}

@@ -16,7 +16,7 @@ use Rattle.unum_world.specs.declared.operation.Op.TheVariants as op
 use Rattle.unum_world.specs.declared.phase.Phase.TheVariants as phase
 use Rattle.unum_world.specs.declared.planned.PlannedStep.{PlannedStep}
 use Rattle.unum_world.specs.declared.queue.Invocation.{Invocation}
-use Rattle.world_model.specs.Acts.{parent_of, due_of, due_enter}
+use Rattle.old_world.specs.Acts.{parent_of, due_of, due_enter}
 use Rattle.unum_world.specs.Program.{due, acts, acts_of, source, source_of, stop_of, doing_op, marking, calling, is_do, is_call, next_takes_memory}
 use Rattle.unum_world.specs.Worlds.{planned_by}
 use Rattle.std.specs.List.{AllByRecursion}

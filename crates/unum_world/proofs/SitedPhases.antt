@@ -13,11 +13,11 @@ use Rattle.asl_model.specs.declared.machine.Machine.{Machine}
 use Rattle.asl_model.specs.Data.{Text}
 use Rattle.asl_model.specs.Tree.{tree_of}
 use Rattle.asl_model.specs.Stretch as stretch
-use Rattle.world_model.specs.Operations as model
-use Rattle.world_model.specs.Operations.{Spot, OnEnter, OnTask, OnJoin, visited_at, Site}
-use Rattle.world_model.specs.Acts as acting
-use Rattle.world_model.specs.Acts.{rules, parent_of, set_ops}
-use Rattle.world_model.specs.Program as program
+use Rattle.old_world.specs.Operations as model
+use Rattle.old_world.specs.Operations.{Spot, OnEnter, OnTask, OnJoin, visited_at, Site}
+use Rattle.old_world.specs.Acts as acting
+use Rattle.old_world.specs.Acts.{rules, parent_of, set_ops}
+use Rattle.old_world.specs.Program as program
 use Rattle.unum_world.specs.declared.held.Kept.{Kept}
 use Rattle.unum_world.specs.declared.held.Held as code
 use Rattle.unum_world.specs.declared.held.Held.TheVariants as held

@@ -4,15 +4,15 @@ use Rattle.std.proofs.Common.{ℕ, ◌<◌, length, ◌≡◌, refl, sym, ap, �
 use Rattle.std.specs.Prelude.{IsSome}
 use Rattle.asl_model.specs.Data.{Json}
 use Rattle.asl_model.specs.declared.machine.Machine.{Machine}
-use Rattle.world_model.specs.World as worlds
-use Rattle.world_model.specs.Drained.{Is_drained}
-use Rattle.world_model.specs.Asking.{Is_calling}
-use Rattle.world_model.proofs.Every.{every_run_agrees}
-use Rattle.world_model.proofs.Finishes.{every_run_takes_nothing_early}
-use Rattle.world_model.proofs.Pace.{every_run_keeps_pace}
-use Rattle.world_model.proofs.Asks.{every_call_is_one}
-use Rattle.world_model.proofs.Quiets.{every_quiet_session_has_ended}
-use Rattle.world_model.proofs.Drains.{every_drained_world_rests}
+use Rattle.old_world.specs.World as worlds
+use Rattle.old_world.specs.Drained.{Is_drained}
+use Rattle.old_world.specs.Asking.{Is_calling}
+use Rattle.old_world.proofs.Every.{every_run_agrees}
+use Rattle.old_world.proofs.Finishes.{every_run_takes_nothing_early}
+use Rattle.old_world.proofs.Pace.{every_run_keeps_pace}
+use Rattle.old_world.proofs.Asks.{every_call_is_one}
+use Rattle.old_world.proofs.Quiets.{every_quiet_session_has_ended}
+use Rattle.old_world.proofs.Drains.{every_drained_world_rests}
 use Rattle.unum_world.specs.declared.opening.Opening.{Opening}
 use Rattle.unum_world.specs.declared.phase.Phase.{Phase}
 use Rattle.unum_world.specs.declared.phase.Phase.TheVariants as phase

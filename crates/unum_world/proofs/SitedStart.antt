@@ -6,9 +6,9 @@ use Rattle.place_name.specs.declared.obj.Obj.TheVariants as obj
 use Rattle.place_name.specs.Same.{object_same}
 use Rattle.place_name.proofs.Sameness.{object_decides}
 use Rattle.asl_model.specs.declared.machine.Machine.{Machine}
-use Rattle.world_model.specs.Operations as model
-use Rattle.world_model.specs.Operations.{Condition, Absent, Live, Tombstone, Site, OnEnter}
-use Rattle.world_model.specs.World as worlds
+use Rattle.old_world.specs.Operations as model
+use Rattle.old_world.specs.Operations.{Condition, Absent, Live, Tombstone, Site, OnEnter}
+use Rattle.old_world.specs.World as worlds
 use Rattle.unum_world.specs.declared.held.Held.TheVariants as held
 use Rattle.unum_world.specs.declared.held.Slot.{Slot}
 use Rattle.unum_world.specs.declared.held.Slot.TheVariants as slot

@@ -11,10 +11,10 @@ use Rattle.fn_table.specs.declared.kind.FnKind.{FnKind}
 use Rattle.fn_table.specs.Answers.{answer}
 use Rattle.asl_model.specs.Data.{Text, Json, Outcome}
 use Rattle.asl_model.specs.declared.machine.Machine.{Machine}
-use Rattle.world_model.specs.Operations as model
-use Rattle.world_model.specs.Operations.{Condition, Absent, Live, Tombstone}
-use Rattle.world_model.specs.Program as program
-use Rattle.world_model.specs.World as worlds
+use Rattle.old_world.specs.Operations as model
+use Rattle.old_world.specs.Operations.{Condition, Absent, Live, Tombstone}
+use Rattle.old_world.specs.Program as program
+use Rattle.old_world.specs.World as worlds
 use Rattle.unum_world.specs.declared.held.Held as code
 use Rattle.unum_world.specs.declared.held.Held.TheVariants as held
 use Rattle.unum_world.specs.declared.held.Slot.{Slot}

@@ -5,7 +5,7 @@ use Rattle.unum_world.specs.declared.queue.InvState.{InvState}
 use Rattle.unum_world.specs.declared.operation.Op.{Op}
 use Rattle.unum_world.specs.declared.operation.Op.TheVariants as op
 use Rattle.unum_world.specs.Worlds.{Holds, Queued, perform, over, over_live, ack_state}
-use Rattle.world_model.proofs.Gets.{get_set}
+use Rattle.old_world.proofs.Gets.{get_set}
 
 abbrev pub Steps_hold : (AttState → Type 0) → List AttState → (attempt : ℕ) → Type 0
 Steps_hold P atts a = (t : AttState) → slice_get atts a ≡ Some t → P t

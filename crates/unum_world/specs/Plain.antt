@@ -17,7 +17,7 @@ use Rattle.unum_world.specs.declared.planned.PlannedStep.{PlannedStep}
 use Rattle.unum_world.specs.declared.queue.Invocation.{Invocation}
 use Rattle.unum_world.specs.declared.queue.AttState.{AttState}
 use Rattle.unum_world.specs.Stretch.{call_of}
-use Rattle.world_model.specs.Operations.{name_at}
+use Rattle.old_world.specs.Operations.{name_at}
 use Rattle.unum_world.specs.Links.{IsChain}
 use Rattle.unum_world.specs.Program.{acts, due}
 use Rattle.unum_world.specs.Worlds.{World, machine_of}

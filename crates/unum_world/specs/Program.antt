@@ -15,9 +15,9 @@ use Rattle.place_name.specs.declared.obj.Obj.TheVariants as obj
 use Rattle.place_name.specs.Names.{Place, Name, Parent, scope_of}
 use Rattle.asl_model.specs.Names.{child}
 use Rattle.asl_model.specs.declared.machine.Machine.{Machine}
-use Rattle.world_model.specs.Operations.{name_at}
-use Rattle.world_model.specs.Acts as model
-use Rattle.world_model.specs.Acts.{parent_of, at_once}
+use Rattle.old_world.specs.Operations.{name_at}
+use Rattle.old_world.specs.Acts as model
+use Rattle.old_world.specs.Acts.{parent_of, at_once}
 use Rattle.unum_world.specs.declared.held.Kept.{Kept}
 use Rattle.unum_world.specs.declared.held.Held.{Held}
 use Rattle.unum_world.specs.declared.held.Held.TheVariants as held

@@ -12,7 +12,7 @@ use Rattle.unum_world.specs.declared.queue.InvState.{InvState}
 use Rattle.unum_world.specs.declared.opening.Session.{Session}
 use Rattle.unum_world.specs.declared.session.Counts.{Counts}
 use Rattle.unum_world.specs.declared.session.Totals.{Totals}
-use Rattle.world_model.specs.Operations.{root}
+use Rattle.old_world.specs.Operations.{root}
 use Rattle.unum_world.specs.Worlds.{World}
 
 pub data Standing : Type 0 where

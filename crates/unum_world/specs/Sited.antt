@@ -1,13 +1,13 @@
--- The world with each function's number replaced by what it stands for. So it is seen as a world of `world_model`, whose
+-- The world with each function's number replaced by what it stands for. So it is seen as a world of `old_world`, whose
 -- theorems hold of it.
 use Rattle.std.specs.Prelude.{ℕ, suc, Bool, true, false, List, [], ◌∷◌, map, Option, Some, None}
 use Rattle.asl_model.specs.Machine.{Block, block, no_state}
 use Rattle.asl_model.specs.Tree.{tree_of}
 use Rattle.asl_model.specs.declared.machine.Machine.{Machine}
-use Rattle.world_model.specs.Operations as model
-use Rattle.world_model.specs.Operations.{Site, Held, Condition, Absent, Live, Tombstone, Kept_as, Outcome_is, Saved_as, Bits_are, Arg_is, OnEnter}
-use Rattle.world_model.specs.Program as program
-use Rattle.world_model.specs.World as worlds
+use Rattle.old_world.specs.Operations as model
+use Rattle.old_world.specs.Operations.{Site, Held, Condition, Absent, Live, Tombstone, Kept_as, Outcome_is, Saved_as, Bits_are, Arg_is, OnEnter}
+use Rattle.old_world.specs.Program as program
+use Rattle.old_world.specs.World as worlds
 use Rattle.unum_world.specs.declared.held.Kept.{Kept}
 use Rattle.unum_world.specs.declared.held.Held as code
 use Rattle.unum_world.specs.declared.held.Held.TheVariants as held

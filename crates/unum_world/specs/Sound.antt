@@ -1,10 +1,10 @@
 -- What holds of every world, whatever was delivered, repeated, crashed, answered and given up.
 use Rattle.std.specs.Prelude.{ℕ, ◌<◌, length}
-use Rattle.world_model.specs.Agrees.{Agrees}
-use Rattle.world_model.specs.Collecting.{Takes_nothing_early}
-use Rattle.world_model.specs.Paced.{Keeps_pace}
-use Rattle.world_model.specs.Quiet.{Is_quiet, Has_ended, Is_swept}
-use Rattle.world_model.specs.Drained.{Is_at_rest}
+use Rattle.old_world.specs.Agrees.{Agrees}
+use Rattle.old_world.specs.Collecting.{Takes_nothing_early}
+use Rattle.old_world.specs.Paced.{Keeps_pace}
+use Rattle.old_world.specs.Quiet.{Is_quiet, Has_ended, Is_swept}
+use Rattle.old_world.specs.Drained.{Is_at_rest}
 use Rattle.unum_world.specs.Worlds.{World}
 use Rattle.unum_world.specs.Chained.{IsDrained}
 use Rattle.unum_world.specs.Seen.{Past, now}

@@ -9,9 +9,9 @@ use Rattle.asl_model.specs.Data as values
 use Rattle.asl_model.specs.Data.{Text, Json, Outcome}
 use Rattle.asl_model.specs.Tree.{tree_of}
 use Rattle.asl_model.specs.Stretch as model
-use Rattle.world_model.specs.Operations.{Spot, OnEnter, OnTask, visited_at, Site}
-use Rattle.world_model.specs.Acts.{rules}
-use Rattle.world_model.specs.Program as program
+use Rattle.old_world.specs.Operations.{Spot, OnEnter, OnTask, visited_at, Site}
+use Rattle.old_world.specs.Acts.{rules}
+use Rattle.old_world.specs.Program as program
 use Rattle.unum_world.specs.declared.stops.Stop.{Stop}
 use Rattle.unum_world.specs.declared.stops.Stop.TheVariants.{Call, Fan, End}
 

@@ -2,7 +2,7 @@
 use Rattle.std.specs.Prelude.{◌≡◌, ℕ, ◌<◌, ◌++◌, [], ◌∷◌, true, false, Some, None}
 use Rattle.unum_json.specs.declared.outcome.Outcome.{Outcome}
 use Rattle.place_name.specs.declared.obj.Obj.TheVariants as obj
-use Rattle.world_model.specs.Operations.{root}
+use Rattle.old_world.specs.Operations.{root}
 use Rattle.unum_world.specs.declared.held.Held.TheVariants as held
 use Rattle.unum_world.specs.declared.held.Slot.TheVariants as slot
 use Rattle.unum_world.specs.declared.opening.Opening.{Opening}

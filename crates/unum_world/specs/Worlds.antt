@@ -10,7 +10,7 @@ use Rattle.place_name.specs.Same.{object_same}
 use Rattle.fn_table.specs.declared.kind.FnKind.{FnKind}
 use Rattle.fn_table.specs.Answers.{answer, Asked}
 use Rattle.asl_model.specs.declared.machine.Machine.{Machine}
-use Rattle.world_model.specs.Operations.{name_at, root}
+use Rattle.old_world.specs.Operations.{name_at, root}
 use Rattle.unum_world.specs.declared.held.Held.{Held}
 use Rattle.unum_world.specs.declared.held.Held.TheVariants as held
 use Rattle.unum_world.specs.declared.held.Slot.{Slot}

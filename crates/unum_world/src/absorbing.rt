@@ -53,7 +53,7 @@ fn found(alloc: Global, m: &Machine, i: &Invocation, attempt: u32, held: Held) -
         (Kind::Enter, Held::Arg { raw, used }) => {
             drop(used);
             Phase::Create(Kept {
-                raw: Json::Null,
+                raw: Json::null(),
                 used: Items::new(alloc),
                 answer: Outcome::Done(raw),
                 ticket: attempt,

@@ -1,6 +1,6 @@
 ghost use Rattle.std.specs.Prelude.{◌≡◌, ◌≤◌, ◌<◌, ◌+◌, length};
 ghost use Rattle.std.specs.Option.{option_copied};
-ghost use Rattle.world_model.specs.Operations.{root};
+ghost use Rattle.old_world.specs.Operations.{root};
 ghost use Rattle.unum_world.specs.Sessions.{standing, all_over, is_over, outcome_in, counted, count_from, no_counts, crash_in, crashes_in, totals_of};
 ghost use Rattle.unum_world.specs.Seen.{seen, objects_of};
 ghost use Rattle.unum_world.specs.Answers.{IsOne};

@@ -4,19 +4,20 @@ use Rattle.asl_model.specs.Data.{match_error, all_errors, same_text, prepared}
 use Rattle.asl_model.specs.Step.{standard}
 use Rattle.asl_model.specs.Central.{scope, hop_limit}
 use Rattle.world_model.specs.Acts.{rules, parent_of}
-use Rattle.world_model.specs.Program.{next_of, absorb}
-use Rattle.world_model.specs.World.{function_of, root_invs, root_states, start_objects, put, effect, enabled, run_from}
-use Rattle.world_model.specs.Journals.{answered, run_of}
-use Rattle.world_model.specs.Rows.{drain, a_name, One_task, Retried_task, Race}
+use Rattle.world_model.specs.World.{function_of, root_states, objects_with}
+use Rattle.world_model.specs.Journals.{journal_answers, run_of}
+use Rattle.world_model.specs.Rows.{drain, a_name, OneTask, RetriedTask, Race}
+use Rattle.world_model.specs.AnyCode.Program as program
+use Rattle.world_model.specs.AnyCode.World as worlds
 
-pub one_task_row : One_task
-unfolding standard scope same_text prepared hop_limit rules parent_of next_of absorb function_of root_invs root_states start_objects put effect enabled answered run_of drain a_name
+pub one_task_row : OneTask
+unfolding standard scope same_text prepared hop_limit rules parent_of program.next_of program.absorb function_of worlds.root_invs root_states worlds.start_objects objects_with worlds.effect worlds.enabled journal_answers run_of drain a_name
 one_task_row = (refl, refl, refl, refl)
 
-pub retried_row : Retried_task
-unfolding standard scope same_text prepared match_error all_errors hop_limit rules parent_of next_of absorb function_of root_invs root_states start_objects put effect enabled answered run_of drain a_name
+pub retried_row : RetriedTask
+unfolding standard scope same_text prepared match_error all_errors hop_limit rules parent_of program.next_of program.absorb function_of worlds.root_invs root_states worlds.start_objects objects_with worlds.effect worlds.enabled journal_answers run_of drain a_name
 retried_row = (refl, refl, refl, refl)
 
 pub race_row : Race
-unfolding standard scope same_text prepared hop_limit rules parent_of next_of absorb function_of root_invs root_states start_objects put effect enabled run_from answered run_of a_name
-race_row = (refl, refl, refl, refl)
+unfolding standard scope same_text prepared hop_limit rules parent_of program.next_of program.absorb function_of worlds.root_invs root_states worlds.start_objects objects_with worlds.effect worlds.enabled worlds.run_from journal_answers run_of a_name
+race_row = (refl, refl, refl, refl, refl)

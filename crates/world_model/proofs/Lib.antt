@@ -1,6 +1,11 @@
 pub mod Gets
+pub mod Queues
+pub mod Mapping
+pub mod Images
+pub mod Flags
 pub mod Same
 pub mod Runs
+pub mod Fanned
 pub mod Keeps
 pub mod Paces
 pub mod Every
@@ -18,3 +23,8 @@ pub mod Bitmaps
 pub mod Pushed
 pub mod Quiets
 pub mod Drains
+pub mod Numbers
+pub mod Standing
+pub mod FlatKnown
+pub mod Flat
+pub mod FlatNumbers

@@ -1,3 +1,5 @@
+pub mod AnyCode
+pub mod Sites
 pub mod Operations
 pub mod Acts
 pub mod Program
@@ -11,3 +13,5 @@ pub mod Rows
 pub mod Steady
 pub mod Quiet
 pub mod Drained
+pub mod Numbered
+pub mod Flat
