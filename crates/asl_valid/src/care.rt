@@ -25,14 +25,14 @@ fn has_all(errors: &Items<Text>) -> bool
 }
 
 /// Whether there is no name, or `States.ALL` stands beside another or not in the last list.
-fn is_bad_list(errors: &Items<Text>, more: bool) -> bool
+pub fn is_bad_list(errors: &Items<Text>, more: bool) -> bool
     ensures { result ≡ ((length errors.now == 0) || (has_all errors.now && (nat_lt 1 (length errors.now) || more))) }
 {
     errors.is_empty() || (has_all(errors) && (errors.len() > 1 || more))
 }
 
 /// Whether the error names of retriers are not as they should be.
-fn has_bad_retry(retriers: &Items<Retrier>) -> bool
+pub fn has_bad_retry(retriers: &Items<Retrier>) -> bool
     ensures { result ≡ has_bad_errors (retrier_errors retriers.now) }
 {
     for (i, retrier) in retriers.as_slice().iter().enumerate() {
@@ -56,7 +56,7 @@ fn has_bad_catch(catchers: &Items<Catcher>) -> bool
 }
 
 /// Whether the MaxAttempts of a retrier is above 99,999,999.
-fn has_bad_attempts(retriers: &Items<Retrier>) -> bool
+pub fn has_bad_attempts(retriers: &Items<Retrier>) -> bool
     ensures { result ≡ list_any (λ r. nat_lt 99999999 r.most) retriers.now }
 {
     retriers

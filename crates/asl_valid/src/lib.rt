@@ -10,4 +10,6 @@ mod naming;
 mod noting;
 mod parts;
 
+pub use care::{has_bad_attempts, has_bad_retry, is_bad_list};
 pub use checking::{CheckError, check};
+pub use naming::is_misnamed;

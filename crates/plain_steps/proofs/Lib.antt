@@ -1,4 +1,3 @@
-pub mod Retries
 pub mod Picks
 pub mod Counts
 pub mod BeginLaw

@@ -1,10 +1,7 @@
 -- What the kinds of states do, where an error of their own data flow is left to whoever calls.
 use Rattle.std.specs.Prelude.{ℕ, List, ◌++◌, map, Option, Some, None, Result, Ok, Err, false}
-use Rattle.asl_paths.specs.Filling.{fill}
-use Rattle.asl_shape.specs.Flow.{small_or}
-use Rattle.asl_shape.specs.declared.trouble.ShapeError.TheVariants as error
 use Rattle.choice_rules.specs.Evaluating.{choose_from}
-use Rattle.asl_model.specs.Data.{Text, Json, Fault, Done, failure, or_path_failure, Shape, Rule, Path, Template, Made, named, prepared, handed_on, output, chosen, no_choice, and_then, parallel_inputs, map_inputs}
+use Rattle.asl_model.specs.Data.{Text, Json, Fault, Done, failure, or_path_failure, Shape, Rule, Path, Template, prepared, handed_on, output, chosen, no_choice, and_then, parallel_inputs, map_inputs}
 use Rattle.asl_model.specs.declared.machine.TopRule.{TopRule}
 use Rattle.asl_model.specs.Machine.{Care}
 use Rattle.asl_model.specs.Head.{result_or, leaves, picked, caught}
@@ -56,20 +53,12 @@ parallel_fans shape n raw = and_then (prepared shape raw) (λ x. and_then (paral
 abbrev pub map_fans : Shape → (items : Path) → (selector : Option Template) → Json → Result Begun Text
 map_fans shape items selector raw = and_then (prepared shape raw) (λ x. and_then (map_inputs items selector x) (λ inputs. Ok (Fans inputs)))
 
--- what the item template makes of the item with this number
-abbrev pub item_input : Template → Json → Json → ℕ → Made
-item_input t x v i = named (small_or error.Parameter (fill x (Some (v, i)) t.fields))
-
 -- the same, once the rules before this number did not match
 abbrev pub next_from : ℕ → List Rule → List TopRule → (default : Option Text) → Json → Result Text Text
 next_from i rest rules default x =
     and_then (or_path_failure (choose_from i rest x)) (λ k. some_next (picked (map (λ (r : TopRule). r.next) rules) default k))
 
 -- the outputs so far, and then those that follow
-abbrev pub more_inputs : List Json → Result (List Json) Text → Result (List Json) Text
-more_inputs before (Ok vs) = Ok (before ++ vs)
-more_inputs before (Err e) = Err e
-
 abbrev pub more_outputs : List Json → Result (List Json) Fault → Result (List Json) Fault
 more_outputs before (Ok vs) = Ok (before ++ vs)
 more_outputs before (Err f) = Err f

@@ -1,4 +1,3 @@
-pub mod Given
 pub mod Views
 pub mod Kinds
 pub mod Finishing

@@ -3,20 +3,18 @@ ghost use Rattle.asl_model.specs.Data.{Text};
 ghost use Rattle.asl_model.specs.Head.{result_or};
 ghost use Rattle.asl_model.specs.Step.{Onward as OnwardSeen, Begun as BegunSeen, standard};
 ghost use Rattle.asl_model.specs.Tree.{care_of, state_tree};
-ghost use Rattle.plain_steps.specs.Given.{Gives};
+ghost use Rattle.unum_ir.specs.Given.{Gives};
 ghost use Rattle.plain_steps.specs.Kinds.{on_or_failed, begun_or_caught, passes, next_state, chooses_with, chooses, succeeds, calls, parallel_fans, map_fans};
 ghost use Rattle.plain_steps.specs.Views.{onward_of, begun_of};
 
 use crate::care::catch;
-use crate::flow::{hand_on, prepare, put_out};
-use crate::inputs::{map_inputs, parallel_inputs};
-use crate::onward::{Begun, Onward, failure, leaves};
+use crate::onward::{Begun, Onward, leaves};
 use crate::rules::choose_next;
-use crate::trouble::FlowError;
 use asl_model::{After, Care, ItemTemplate, State, TopRule};
 use asl_paths::Path;
 use asl_shape::Shape;
 use std::alloc::Global;
+use unum_ir::{FlowError, failure, hand_on, map_inputs, parallel_inputs, prepare, put_out};
 use unum_json::{Items, Json, NoMemory, Outcome, Text};
 
 /// An error has the state's name as cause, and ends the scope.

@@ -1,70 +1,14 @@
 ghost use Rattle.std.specs.Prelude.{◌≡◌, IfOk, None, map};
-ghost use Rattle.asl_model.specs.Data.{match_error, put_error};
-ghost use Rattle.asl_model.specs.Head.{Goes, retried, caught, or_fails};
+ghost use Rattle.asl_model.specs.Data.{put_error};
+ghost use Rattle.asl_model.specs.Head.{Goes, caught, or_fails};
 ghost use Rattle.asl_model.specs.Tree.{catcher_of};
-ghost use Rattle.plain_steps.specs.Given.{is_match};
 ghost use Rattle.plain_steps.specs.Views.{onward_of};
 
-use crate::flow::put_error;
-use crate::onward::{Onward, Used, failure};
-use crate::trouble::FlowError;
-use asl_model::{Catcher, Retrier};
+use crate::onward::Onward;
+use asl_model::Catcher;
 use std::alloc::Global;
+use unum_ir::{FlowError, failure, match_error, put_error};
 use unum_json::{Items, Json, NoMemory, Text};
-
-/// Whether a name matches an error. `States.ALL` matches each error, and `States.TaskFailed` each that a Task's function answered.
-///
-/// Source: Amazon States Language, "Errors".
-#[tactic(auto, unfolding(asl_model::specs::Data::all_errors, asl_model::specs::Data::task_failed))]
-fn is_match(name: &Text, error: &str, answered: bool) -> bool
-    ensures { result ≡ is_match name.now error.now answered }
-{
-    let name = name.as_str();
-    name == error || name == "States.ALL" || (name == "States.TaskFailed" && answered)
-}
-
-/// Whether one of these names matches an error.
-#[tactic(auto, unfolding(asl_model::specs::Data::match_error))]
-fn match_error(errors: &Items<Text>, error: &str, answered: bool) -> bool
-    ensures { result ≡ match_error errors.now error.now answered }
-{
-    for name in errors.as_slice() {
-        if is_match(name, error, answered) {
-            return true;
-        }
-    }
-    false
-}
-
-/// The list used with the first retrier that matches taken once more, if it may be.
-///
-/// Source: Amazon States Language, "Retrying After Error".
-pub fn retry(
-    alloc: Global,
-    error: &str,
-    answered: bool,
-    retriers: &Items<Retrier>,
-    used: &Used,
-) -> Result<Option<Used>, NoMemory>
-    ensures { IfOk result (λ again. again ≡ retried error.now answered retriers.now used.now) }
-{
-    let counts = used.as_slice();
-    for (i, retrier) in retriers.as_slice().iter().enumerate() {
-        if i >= counts.len() {
-            return Ok(None);
-        }
-        if match_error(&retrier.errors, error, answered) {
-            let count = counts[i];
-            if count >= retrier.most {
-                return Ok(None);
-            }
-            let mut again = Items::from_slice(alloc, counts)?;
-            again.set(i, count + 1);
-            return Ok(Some(again));
-        }
-    }
-    Ok(None)
-}
 
 /// Where a catcher leads, with the error put into the raw data.
 fn follow<'m>(

@@ -1,16 +1,16 @@
 ghost use Rattle.std.specs.Prelude.{◌≡◌, ◌++◌, ◌∷◌, [], Ok, IfOk, OnOk};
 ghost use Rattle.asl_model.specs.Data.{array_or_fault, combine};
 
-use crate::onward::failure;
 use std::alloc::Global;
-use unum_json::{Items, Json, NoMemory, Outcome, Text, copy, copy_outcome, is_small};
+use unum_ir::failure;
+use unum_json::{Items, Json, NoMemory, Outcome, Text, array, copy, copy_outcome, is_small};
 
 /// The array of the outputs, or the failure of a fan of this name where that is too large.
 #[tactic(auto, unfolding(asl_model::specs::Data::data_limit))]
 fn array_of(alloc: Global, name: &Text, outputs: Items<Json>) -> Result<Outcome, NoMemory>
     ensures { IfOk result (λ o. o ≡ array_or_fault name.now (Ok outputs)) }
 {
-    let array = Json::Arr(outputs);
+    let array = array(alloc, outputs)?;
     if is_small(&array) {
         return Ok(Outcome::Done(array));
     }

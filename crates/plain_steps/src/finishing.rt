@@ -7,13 +7,12 @@ ghost use Rattle.asl_model.specs.Tree.{care_of, state_tree};
 ghost use Rattle.plain_steps.specs.Finishing.{finish_with, fresh_with};
 ghost use Rattle.plain_steps.specs.Views.{onward_of};
 
-use crate::care::{catch, retry};
-use crate::flow::hand_on;
+use crate::care::catch;
 use crate::onward::{Onward, Used, leaves};
-use crate::trouble::FlowError;
 use asl_model::{After, Care, State};
 use asl_shape::Shape;
 use std::alloc::Global;
+use unum_ir::{FlowError, hand_on, retry};
 use unum_json::{Fault, Json, NoMemory, Outcome, Text, copy, copy_outcome};
 
 /// What of a state counts once it has an answer.

@@ -9,13 +9,10 @@ mod beginning;
 mod care;
 mod combining;
 mod finishing;
-mod flow;
-mod inputs;
 mod limit;
 mod onward;
 mod rules;
 mod stop;
-mod trouble;
 mod walking;
 
 pub use beginning::begin;

@@ -1,11 +1,9 @@
-ghost use Rattle.std.specs.Prelude.{◌≡◌, IfOk};
-ghost use Rattle.asl_model.specs.Data.{failure};
+ghost use Rattle.std.specs.Prelude.{◌≡◌};
 ghost use Rattle.asl_model.specs.Head.{leaves};
 ghost use Rattle.plain_steps.specs.Views.{onward_of};
 
 use asl_model::After;
-use std::alloc::Global;
-use unum_json::{Fault, Items, Json, NoMemory, Outcome, Text};
+use unum_json::{Items, Json, Outcome, Text};
 
 /// How often each retrier of a state was taken.
 pub type Used = Items<u32>;
@@ -36,15 +34,6 @@ pub enum Begun<'m> {
     Calls { resource: &'m Text, input: Json },
     /// It fans out, with one input for each branch.
     Fans(Items<Json>),
-}
-
-/// The failure with this error and this cause.
-pub fn failure(alloc: Global, error: &str, cause: &str) -> Result<Outcome, NoMemory>
-    ensures { IfOk result (λ o. o ≡ failure error.now cause.now) }
-{
-    let error = Text::from_str(alloc, error)?;
-    let cause = Text::from_str(alloc, cause)?;
-    Ok(Outcome::Failed(Fault { error, cause }))
 }
 
 /// After a state, the next one is entered, or the scope ends.

@@ -1,10 +1,10 @@
 ghost use Rattle.std.specs.Prelude.{◌≡◌};
-ghost use Rattle.plain_steps.specs.Given.{Gives};
+ghost use Rattle.unum_ir.specs.Given.{Gives};
 ghost use Rattle.plain_steps.specs.Kinds.{next_state};
 
-use crate::trouble::{FlowError, StateError};
 use asl_model::TopRule;
 use choice_rules::{PathFailure, matches};
+use unum_ir::{FlowError, StateError};
 use unum_json::{Items, Json, Text};
 
 /// The state of the first rule that matches a value, or the default.

@@ -11,10 +11,11 @@ ghost use Rattle.plain_steps.specs.Views.{onward_of, begun_of};
 
 use crate::beginning::begin;
 use crate::finishing::{finish, parts_of};
-use crate::onward::{Begun, Onward, Used, failure};
+use crate::onward::{Begun, Onward, Used};
 use crate::stop::{Step, Stop, Visited};
 use asl_model::{Block, Retrier, State};
 use std::alloc::Global;
+use unum_ir::failure;
 use unum_json::{Items, Json, NoMemory, Outcome, Text, copy, copy_outcome};
 
 /// How many states a scope enters at most.

@@ -3,9 +3,9 @@ use Rattle.std.proofs.Common.{◌≡◌, ℕ, suc, sym, ap, ◌∙◌, List, sli
 use Rattle.fn_table.specs.declared.kind.FnKind.{FnKind}
 use Rattle.fn_table.specs.Answers.{answer}
 use Rattle.asl_model.specs.Data.{Text, Json}
-use Rattle.world_model.specs.Operations.{Invocation, Op}
-use Rattle.world_model.specs.Program.{Do, Ask, Nothing, next_of, absorb, called_back}
-use Rattle.world_model.specs.World.{World, Attempt, Step, Answer, effect, with_att, with_inv, did, asked, answered_by, perform, reply_to, lives_on, function_of}
+use Rattle.old_world.specs.Operations.{Invocation, Op}
+use Rattle.old_world.specs.Program.{Do, Ask, Nothing, next_of, absorb, called_back}
+use Rattle.old_world.specs.World.{World, Attempt, Step, Answer, effect, with_att, with_inv, did, asked, answered_by, perform, reply_to, lives_on, function_of}
 use Rattle.plain_world.specs.Views.{put_attempt}
 
 -- an attempt with its invocation

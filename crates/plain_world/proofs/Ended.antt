@@ -2,7 +2,7 @@
 use Rattle.std.proofs.Common.{◌≡◌, ℕ, ◌<◌, ◌≤◌, refl, sym, ap, ◌∙◌, List, length, map, get_or, slice_get, slice_set, false, Some, None, option_map}
 use Rattle.std.proofs.lemmas.Option.{slice_get-map, slice_get_read, slice_get_past, same_Some}
 use Rattle.std.proofs.lemmas.List.{map-set}
-use Rattle.world_model.specs.World as u
+use Rattle.old_world.specs.World as u
 use Rattle.plain_world.specs.declared.session.Attempt.{Attempt}
 use Rattle.plain_world.specs.Views.{attempt_of}
 

@@ -6,8 +6,8 @@ use Rattle.asl_model.specs.Machine.{Block, blocks_in}
 use Rattle.asl_model.specs.declared.machine.Block as Machine
 use Rattle.asl_model.specs.Tree.{block_tree, blocks_from}
 use Rattle.asl_model.specs.Stretch.{pairs}
-use Rattle.world_model.specs.Operations.{Frame, Site, Invoke, Create, Saved_as}
-use Rattle.world_model.specs.Acts.{enter_ops, enter_of, fan_ops, at_once, firsts, width_of, inner}
+use Rattle.old_world.specs.Operations.{Frame, Site, Invoke, Create, Saved_as}
+use Rattle.old_world.specs.Acts.{enter_ops, enter_of, fan_ops, at_once, firsts, width_of, inner}
 use Rattle.std.proofs.lemmas.List.{length-map}
 use Rattle.place_name.specs.declared.obj.Obj.TheVariants.{Saved}
 use Rattle.plain_world.specs.declared.site.Branch.{Branch}

@@ -3,7 +3,7 @@ use Rattle.std.proofs.Common.{◌≡◌, ℕ, zero, suc, ◌+◌, ◌-◌, ◌<�
 use Rattle.place_name.specs.Names.{Place, Scope}
 use Rattle.place_name.specs.declared.obj.Obj.TheVariants.{Out}
 use Rattle.asl_model.specs.Names.{child}
-use Rattle.world_model.specs.Acts.{out_objects, firsts, at_once}
+use Rattle.old_world.specs.Acts.{out_objects, firsts, at_once}
 
 -- the outcomes of the branches from one on, by that one and those after it
 pub out_step : (p : Place) (i n : ℕ) (s : Scope) → i < n → s ≡ child p i n → out_objects p i n (n - i) ≡ Out s ∷ out_objects p (i + 1) n (n - (i + 1))

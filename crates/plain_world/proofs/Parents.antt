@@ -2,7 +2,7 @@
 use Rattle.std.proofs.Common.{◌≡◌, refl, sym, ap, subst, List, [], ◌∷◌, ◌++◌, Option, Some, None}
 use Rattle.std.specs.Prelude.{◌↔◌, IsNone, IfSome}
 use Rattle.place_name.specs.Names.{Seg, Scope, Parent, IsBranch}
-use Rattle.world_model.specs.Acts.{split_last, split_more, parent_in, parent_of}
+use Rattle.old_world.specs.Acts.{split_last, split_more, parent_in, parent_of}
 
 split_snoc : (t : List Seg) (g : Seg) → split_last (t ++ g ∷ []) ≡ Some (record { front = t; last = g })
 split_snoc [] g = refl

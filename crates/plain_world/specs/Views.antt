@@ -1,13 +1,13 @@
--- How the values of this crate are seen as the data of `world_model`.
+-- How the values of this crate are seen as the data of `old_world`.
 use Rattle.std.specs.Prelude.{ℕ, map, List, [], ◌∷◌, cond, slice_get, slice_set, Option, Some, None}
 use Rattle.asl_model.specs.Data.{Json, Null}
 use Rattle.asl_model.specs.Machine as m
 use Rattle.asl_model.specs.Tree.{block_tree}
 use Rattle.place_name.specs.declared.obj.Obj.{Obj}
 use Rattle.place_name.specs.Same.{object_same}
-use Rattle.world_model.specs.Operations as w
-use Rattle.world_model.specs.Program as p
-use Rattle.world_model.specs.World as u
+use Rattle.old_world.specs.Operations as w
+use Rattle.old_world.specs.Program as p
+use Rattle.old_world.specs.World as u
 use Rattle.plain_world.specs.declared.site.Spot.{Spot}
 use Rattle.plain_world.specs.declared.site.Spot.TheVariants as spot
 use Rattle.plain_world.specs.declared.site.Frame.{Frame}

@@ -1,5 +1,5 @@
 ghost use Rattle.std.specs.Prelude.{◌≡◌, IfOk, slice_get};
-ghost use Rattle.world_model.specs.World.{enabled, att_lets, is_do, is_ask};
+ghost use Rattle.old_world.specs.World.{enabled, att_lets, is_do, is_ask};
 ghost use Rattle.plain_world.specs.Views.{event_of, doing_of, doing_in, seen};
 
 use crate::phase::Doing;
@@ -63,7 +63,7 @@ pub fn doing<'m>(alloc: Global, world: &World<'m>, attempt: u32) -> Result<Doing
 }
 
 /// Whether the event may happen.
-#[tactic(auto, unfolding(world_model::specs::World::enabled))]
+#[tactic(auto, unfolding(old_world::specs::World::enabled))]
 pub fn may(alloc: Global, world: &World<'_>, e: Event) -> Result<bool, Unable>
     ensures { IfOk result (λ b. b ≡ enabled (seen world.now) (event_of e)) }
 {

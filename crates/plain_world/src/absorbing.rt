@@ -1,8 +1,8 @@
 ghost use Rattle.std.specs.Prelude.{◌≡◌, ◌++◌, ◌∷◌, [], IfOk, map, length};
 ghost use Rattle.asl_model.specs.Data.{combine};
 ghost use Rattle.asl_model.specs.Names.{scope_of};
-ghost use Rattle.world_model.specs.Acts.{parent_of as parent_of_scope, acts as acts_of_instance};
-ghost use Rattle.world_model.specs.Program.{absorb as absorb_in, adopted as adopts, after_look, gathered as gathers, saved as saves, after_saved, after_out, enters_with as enters, read_as as reads_as, after_read, input_at as input_in_fan, after_create, after_act, state_at as state_at_spot, Acting, Marking, Acking};
+ghost use Rattle.old_world.specs.Acts.{parent_of as parent_of_scope, acts as acts_of_instance};
+ghost use Rattle.old_world.specs.Program.{absorb as absorb_in, adopted as adopts, after_look, gathered as gathers, saved as saves, after_saved, after_out, enters_with as enters, read_as as reads_as, after_read, input_at as input_in_fan, after_create, after_act, state_at as state_at_spot, Acting, Marking, Acking};
 ghost use Rattle.std.specs.Prelude.{nat_lt, cond, suc, true};
 ghost use Rattle.plain_world.specs.Views.{frame_of, spot_of, invocation_of, held_of, phase_of, reply_of, kept_of};
 
@@ -176,7 +176,7 @@ fn enters_with(alloc: Global, ticket: u32, input: Option<Json>) -> Phase
 {
     match input {
         Some(input) => Phase::Creating(Kept {
-            raw: Json::Null,
+            raw: Json::null(),
             used: Items::new(alloc),
             answer: Outcome::Done(input),
             ticket,
@@ -331,7 +331,7 @@ fn calling(alloc: Global, raw: &Json, used: &Used) -> Result<Phase, NoMemory>
 
 /// The phase of an attempt after a reply; the ticket is the attempt's number. What is not there although it was expected sends it
 /// back to its first look.
-#[tactic(auto, unfolding(world_model::specs::Program::absorb))]
+#[tactic(auto, unfolding(old_world::specs::Program::absorb))]
 pub fn absorb(
     alloc: Global,
     i: &Invocation<'_>,

@@ -3,8 +3,8 @@ ghost use Rattle.asl_model.specs.Machine.{state_of};
 ghost use Rattle.asl_model.specs.Tree.{block_tree};
 ghost use Rattle.plain_steps.specs.Stopping.{stop_of, visited_of, children_at};
 ghost use Rattle.place_name.specs.declared.obj.Obj.TheVariants.{Saved};
-ghost use Rattle.world_model.specs.Operations.{visited_at as visited_at_spot, OnTask, Create, Saved_as};
-ghost use Rattle.world_model.specs.Acts.{acts as acts_of_instance, acts_of as acts_at, join_of as join_at, enter_of as enter_at, enter_ops as enter_ops_at, fan_ops as fan_ops_at, pace_ops as pace_ops_at, set_ops as set_ops_at, width_in as width_inside};
+ghost use Rattle.old_world.specs.Operations.{visited_at as visited_at_spot, OnTask, Create, Saved_as};
+ghost use Rattle.old_world.specs.Acts.{acts as acts_of_instance, acts_of as acts_at, join_of as join_at, enter_of as enter_at, enter_ops as enter_ops_at, fan_ops as fan_ops_at, pace_ops as pace_ops_at, set_ops as set_ops_at, width_in as width_inside};
 ghost use Rattle.asl_model.specs.Stretch as stops;
 ghost use Rattle.plain_world.specs.Views.{frame_of, site_of, invocation_of, op_of, kept_of, branch_of, spot_of, bare};
 
@@ -332,7 +332,7 @@ fn visited_at(spot: Spot<'_>) -> Visited<'_>
 }
 
 /// The acts of an instance, where that is the adopted answer.
-#[tactic(auto, unfolding(world_model::specs::Acts::rules))]
+#[tactic(auto, unfolding(old_world::specs::Acts::rules))]
 pub fn acts<'m>(alloc: Global, i: &Invocation<'m>, kept: &Kept) -> Result<Items<Op<'m>>, Unable>
     ensures { IfOk result (λ ops. map op_of ops ≡ acts_of_instance (invocation_of i.now) (kept_of kept.now)) }
 {

@@ -1,6 +1,6 @@
 ghost use Rattle.std.specs.Prelude.{◌≡◌, ◌∷◌, IfOk};
 ghost use Rattle.std.specs.Option.{option_copied};
-ghost use Rattle.world_model.specs.World.{has_bit as has_bit_in, has_all as has_all_in};
+ghost use Rattle.old_world.specs.World.{has_bit as has_bit_in, has_all as has_all_in};
 ghost use Rattle.plain_world.specs.Views.{condition_in, bits_in};
 
 use crate::held::{Held, Slot};

@@ -3,7 +3,7 @@ ghost use Rattle.asl_model.specs.Data.{repeat};
 ghost use Rattle.asl_model.specs.Tree.{block_tree, state_tree};
 ghost use Rattle.asl_model.specs.Stretch.{children, pairs};
 ghost use Rattle.plain_world.specs.Views.{frame_of, branch_of, bare};
-ghost use Rattle.world_model.specs.Acts.{width_of as width_of_frame, at_once as first_ones};
+ghost use Rattle.old_world.specs.Acts.{width_of as width_of_frame, at_once as first_ones};
 
 use crate::site::{Branch, Frame};
 use asl_model::{Block, State};

@@ -1,7 +1,7 @@
 ghost use Rattle.std.specs.Prelude.{◌≡◌, IfOk, ◌∷◌, []};
 ghost use Rattle.place_name.specs.declared.obj.Obj.TheVariants as object;
 ghost use Rattle.place_name.specs.declared.kind.Kind.TheVariants as kind;
-ghost use Rattle.world_model.specs.Acts.{due as due_objects, out_objects as out_objects_from, due_of, due_enter as due_of_enter, parent_of as parent_of_scope};
+ghost use Rattle.old_world.specs.Acts.{due as due_objects, out_objects as out_objects_from, due_of, due_enter as due_of_enter, parent_of as parent_of_scope};
 ghost use Rattle.asl_model.specs.Names.{scope_of};
 
 use crate::names::{branch_scope, parent_of};

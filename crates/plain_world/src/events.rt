@@ -1,7 +1,7 @@
 ghost use Rattle.std.specs.Prelude.{◌≡◌, suc, IfOk, OnOk, OnErr, slice_get, true};
-ghost use Rattle.world_model.specs.World.{effect, delivered, crashed, ended_try, with_att, with_state, lives_on as lives_on_after, reply_to as reply_of_world, perform as performed, Attempt as ModelAttempt};
-ghost use Rattle.world_model.specs.Program.{called_back as called_back_in, absorb as absorb_in};
-ghost use Rattle.world_model.specs.Operations.{Invocation as ModelInvocation};
+ghost use Rattle.old_world.specs.World.{effect, delivered, crashed, ended_try, with_att, with_state, lives_on as lives_on_after, reply_to as reply_of_world, perform as performed, Attempt as ModelAttempt};
+ghost use Rattle.old_world.specs.Program.{called_back as called_back_in, absorb as absorb_in};
+ghost use Rattle.old_world.specs.Operations.{Invocation as ModelInvocation};
 ghost use Rattle.fn_table.specs.Answers.{answer as answer_of};
 ghost use Rattle.plain_world.specs.Views.{op_of, phase_of, attempt_of, event_of, invocation_of, seen, put_attempt};
 
@@ -261,7 +261,7 @@ fn answer(alloc: Global, world: &mut World<'_>, attempt: u32) -> Result<(), Unab
 }
 
 /// The world after an event, in place.
-#[tactic(auto, unfolding(world_model::specs::World::effect))]
+#[tactic(auto, unfolding(old_world::specs::World::effect))]
 pub fn make(alloc: Global, world: &mut World<'_>, e: Event) -> Result<(), Unable>
     ensures ok { OnOk result (seen world.new ≡ effect (seen world.old) (event_of e)) }
     ensures err { OnErr result (seen world.new ≡ seen world.old) }

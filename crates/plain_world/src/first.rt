@@ -1,7 +1,7 @@
 ghost use Rattle.std.specs.Prelude.{◌≡◌, ◌∷◌, [], IfOk, OnOk, map};
 ghost use Rattle.place_name.specs.declared.obj.Obj.TheVariants.{Arg};
-ghost use Rattle.world_model.specs.Operations.{Arg_is, Live};
-ghost use Rattle.world_model.specs.World.{root_inv, root_invs, root_states, start_objects, fresh, put as put_in};
+ghost use Rattle.old_world.specs.Operations.{Arg_is, Live};
+ghost use Rattle.old_world.specs.World.{root_inv, root_invs, root_states, start_objects, fresh, put as put_in};
 ghost use Rattle.plain_world.specs.Views.{session_of, look_in, invocation_of, state_of};
 
 use crate::held::{Held, Slot};
@@ -86,7 +86,7 @@ fn put_session<'m>(
 }
 
 /// What there is of these sessions, which are numbered from one on.
-#[tactic(auto, unfolding(world_model::specs::World::root_invs, world_model::specs::World::root_states, world_model::specs::World::start_objects, crate::specs::Views::look_in))]
+#[tactic(auto, unfolding(old_world::specs::World::root_invs, old_world::specs::World::root_states, old_world::specs::World::start_objects, crate::specs::Views::look_in))]
 pub fn first<'m>(alloc: Global, number: u32, sessions: &[Session<'m>]) -> Result<Begun<'m>, Unable>
     ensures objects { IfOk result (λ f. look_in f.objects.items ≡ start_objects number (map session_of sessions.now)) }
     ensures invs { IfOk result (λ f. map invocation_of f.invs.items ≡ root_invs number (map session_of sessions.now)) }

@@ -1,5 +1,5 @@
-//! A plain program that runs the worlds of `world_model`: lists that are searched from the front, and an instance's acts computed
-//! anew at each step. Its contracts are the definitions of `world_model`, so that a run of it is a run of them.
+//! A plain program that runs the worlds of `old_world`: lists that are searched from the front, and an instance's acts computed
+//! anew at each step. Its contracts are the definitions of `old_world`, so that a run of it is a run of them.
 #![tactic(auto)]
 
 mod able;

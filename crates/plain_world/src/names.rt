@@ -1,8 +1,8 @@
 ghost use Rattle.std.specs.Prelude.{◌≡◌, IfOk};
 ghost use Rattle.place_name.specs.declared.kind.Kind.TheVariants as kind;
 ghost use Rattle.asl_model.specs.Names.{at_hop, child as child_of};
-ghost use Rattle.world_model.specs.Operations.{name_at, root};
-ghost use Rattle.world_model.specs.Acts.{parent_of as parent_of_scope, join_name as join_name_of};
+ghost use Rattle.old_world.specs.Operations.{name_at, root};
+ghost use Rattle.old_world.specs.Acts.{parent_of as parent_of_scope, join_name as join_name_of};
 
 use crate::unable::Unable;
 use place_name::{

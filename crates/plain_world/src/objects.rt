@@ -1,7 +1,7 @@
 ghost use Rattle.std.specs.Prelude.{◌≡◌, OnOk, OnErr};
 ghost use Rattle.std.specs.Option.{option_copied};
 ghost use Rattle.plain_world.specs.Views.{look_in, condition_in, condition_of};
-ghost use Rattle.world_model.specs.World.{put as put_in};
+ghost use Rattle.old_world.specs.World.{put as put_in};
 ghost use Rattle.place_name.specs.Same.{object_same};
 
 use crate::held::Slot;
@@ -29,7 +29,7 @@ pub fn look<'a>(objects: &'a [(Obj, Slot)], object: &Obj) -> Option<&'a Slot>
 }
 
 /// Changes one object: what it is now stands before what it was.
-#[tactic(auto, unfolding(crate::specs::Views::look_in, world_model::specs::World::put))]
+#[tactic(auto, unfolding(crate::specs::Views::look_in, old_world::specs::World::put))]
 pub fn put(objects: &mut Vec<(Obj, Slot)>, object: Obj, slot: Slot) -> Result<(), NoMemory>
     ensures ok { OnOk result (look_in objects.new.items ≡ put_in object (condition_of slot) (look_in objects.old.items)) }
     ensures err { OnErr result (objects.new.items ≡ objects.old.items) }

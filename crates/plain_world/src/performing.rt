@@ -1,8 +1,8 @@
 ghost use Rattle.std.specs.Prelude.{◌≡◌, ◌++◌, ◌∷◌, [], ◌<◌, IfOk, OnOk, OnErr, map, slice_get, vec_len, vec_capacity};
 ghost use Rattle.std.specs.Option.{option_copied};
 ghost use Rattle.place_name.specs.declared.obj.Obj.TheVariants.{Bits};
-ghost use Rattle.world_model.specs.Operations.{Live};
-ghost use Rattle.world_model.specs.World.{put as put_in, reply_to as reply_of_world, look_reply as look_reply_of, create_reply as create_reply_of, set_reply as set_reply_of, mark_reply as mark_reply_of, entries_of, created, marked, with_bit as bit_set, with_state, acked, fresh, perform as performed, Attempt as ModelAttempt};
+ghost use Rattle.old_world.specs.Operations.{Live};
+ghost use Rattle.old_world.specs.World.{put as put_in, reply_to as reply_of_world, look_reply as look_reply_of, create_reply as create_reply_of, set_reply as set_reply_of, mark_reply as mark_reply_of, entries_of, created, marked, with_bit as bit_set, with_state, acked, fresh, perform as performed, Attempt as ModelAttempt};
 ghost use Rattle.plain_world.specs.Views.{op_of, reply_of, held_of, condition_in, invocation_of, entries_in, entry_of, seen};
 
 use crate::bits::{has_all, with_bit};

@@ -3,10 +3,10 @@ ghost use Rattle.place_name.specs.declared.obj.Obj.TheVariants.{Check, Out};
 ghost use Rattle.asl_model.specs.Names.{scope_of, child};
 ghost use Rattle.asl_model.specs.Machine.{state_of};
 ghost use Rattle.asl_model.specs.Tree.{block_tree};
-ghost use Rattle.world_model.specs.Acts.{parent_of as parent_of_scope, acts as acts_of_instance, due as due_objects};
+ghost use Rattle.old_world.specs.Acts.{parent_of as parent_of_scope, acts as acts_of_instance, due as due_objects};
 ghost use Rattle.plain_steps.specs.Views.{begun_of};
-ghost use Rattle.world_model.specs.Operations.{Look, Create, Kept_as};
-ghost use Rattle.world_model.specs.Program.{Do, call_in, call_at, input_of as input_in_begun, input_in as input_in_state, next_of as next_in, asking as asks, call_of, doing as does, marking as marks, joining as joins, source as source_of, input_at as input_in_fan};
+ghost use Rattle.old_world.specs.Operations.{Look, Create, Kept_as};
+ghost use Rattle.old_world.specs.Program.{Do, call_in, call_at, input_of as input_in_begun, input_in as input_in_state, next_of as next_in, asking as asks, call_of, doing as does, marking as marks, joining as joins, source as source_of, input_at as input_in_fan};
 ghost use Rattle.plain_world.specs.Views.{frame_of, site_of, invocation_of, phase_of, doing_of, kept_of};
 
 use crate::acts::{acts, join_of};
@@ -34,7 +34,7 @@ fn calling<'m>(begun: Begun<'m>) -> Doing<'m>
 }
 
 /// The function that the Task of that name calls, and the effective input.
-#[tactic(auto, unfolding(world_model::specs::Acts::rules))]
+#[tactic(auto, unfolding(old_world::specs::Acts::rules))]
 fn asking_at<'m>(
     alloc: Global,
     site: &Site<'m>,
@@ -140,7 +140,7 @@ fn input_of(begun: Begun<'_>, index: u32) -> Option<Json>
 }
 
 /// The input with that index of the fan of that state.
-#[tactic(auto, unfolding(world_model::specs::Acts::rules))]
+#[tactic(auto, unfolding(old_world::specs::Acts::rules))]
 fn input_in(alloc: Global, fan: &Frame<'_>, raw: &Json, index: u32) -> Result<Option<Json>, Unable>
     ensures { IfOk result (λ x. x ≡ input_in_state (frame_of fan.now).name (state_of (frame_of fan.now).block (frame_of fan.now).name) raw.now index) }
 {
@@ -185,7 +185,7 @@ fn creating<'m>(alloc: Global, i: &Invocation<'m>, kept: &Kept) -> Result<Doing<
 }
 
 /// What an attempt of an invocation does next.
-#[tactic(auto, unfolding(world_model::specs::Program::next_of))]
+#[tactic(auto, unfolding(old_world::specs::Program::next_of))]
 pub fn next_of<'m>(alloc: Global, i: &Invocation<'m>, phase: &Phase) -> Result<Doing<'m>, Unable>
     ensures { IfOk result (λ d. doing_of d ≡ next_in (invocation_of i.now) (phase_of phase.now)) }
 {

@@ -2,7 +2,7 @@
 
 ghost use Rattle.std.specs.Prelude.{◌≡◌, Some, map, option_map, slice_get, slice_set, false};
 ghost use Rattle.std.specs.Option.{option_copied};
-ghost use Rattle.world_model.specs.World.{Attempt as ModelAttempt};
+ghost use Rattle.old_world.specs.World.{Attempt as ModelAttempt};
 ghost use Rattle.plain_world.specs.Views.{state_of, attempt_of, invocation_of};
 
 use crate::session::{Attempt, InvState};

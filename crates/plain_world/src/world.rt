@@ -1,6 +1,6 @@
 ghost use Rattle.std.specs.Prelude.{◌≡◌, IfOk, OnOk, OnErr, IsTrue, IsFalse, map};
 ghost use Rattle.std.specs.Option.{option_copied};
-ghost use Rattle.world_model.specs.World.{start, effect, enabled};
+ghost use Rattle.old_world.specs.World.{start, effect, enabled};
 ghost use Rattle.plain_world.specs.Views.{seen, doing_of, doing_in, condition_in, opening_of, event_of, invocation_of, state_of, attempt_of, entry_of};
 
 use crate::able::{doing, may};

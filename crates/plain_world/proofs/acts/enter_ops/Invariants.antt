@@ -1,5 +1,5 @@
 use Rattle.std.proofs.Common.{◌≡◌, ◌++◌, drop, map}
-use Rattle.world_model.specs.Acts.{enter_ops}
+use Rattle.old_world.specs.Acts.{enter_ops}
 use Rattle.plain_world.specs.Views.{branch_of, frame_of, op_of}
 use Rattle.plain_world.proofs.acts.enter_ops.Given as goal
 

@@ -3,7 +3,7 @@ use Rattle.std.specs.Prelude.{◌≡◌, IfOk}
 use Rattle.asl_model.specs.Machine.{state_of}
 use Rattle.asl_model.specs.Tree.{block_tree}
 use Rattle.plain_steps.specs.Stopping.{children_at}
-use Rattle.world_model.specs.Operations.{Op}
+use Rattle.old_world.specs.Operations.{Op}
 use Rattle.plain_world.specs.Views.{branch_of, bare, op_of, site_of}
 use Rattle.plain_world.proofs.Fans.{fan_is}
 use Rattle.plain_world.proofs.acts.fan_stop.Goals as goal

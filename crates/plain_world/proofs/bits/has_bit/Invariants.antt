@@ -1,5 +1,5 @@
 use Rattle.std.proofs.Common.{◌≡◌, drop}
-use Rattle.world_model.specs.World.{has_bit}
+use Rattle.old_world.specs.World.{has_bit}
 use Rattle.plain_world.proofs.bits.has_bit.Given as goal
 
 abbrev pub invariant-loop-bit : goal.invariant-loop-bit

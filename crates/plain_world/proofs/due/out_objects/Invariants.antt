@@ -1,5 +1,5 @@
 use Rattle.std.proofs.Common.{◌≡◌, ◌++◌, ◌-◌}
-use Rattle.world_model.specs.Acts.{out_objects}
+use Rattle.old_world.specs.Acts.{out_objects}
 use Rattle.plain_world.proofs.due.out_objects.Given as goal
 
 abbrev pub invariant-loop-index : goal.invariant-loop-index

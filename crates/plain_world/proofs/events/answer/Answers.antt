@@ -1,7 +1,7 @@
 use Rattle.std.proofs.Common.{◌≡◌, sym, ap, ◌∙◌, map, slice_get, Some, None}
 use Rattle.unum_json.specs.Keys.{find_key}
-use Rattle.world_model.specs.Program.{Do, Ask, Nothing, next_of}
-use Rattle.world_model.specs.World.{function_of}
+use Rattle.old_world.specs.Program.{Do, Ask, Nothing, next_of}
+use Rattle.old_world.specs.World.{function_of}
 use Rattle.plain_world.specs.Views.{seen, attempt_of, invocation_of, doing_of, op_of}
 use Rattle.plain_world.proofs.Effects.{Found, answer_none, answer_lost, answer_nothing, answer_do, answer_missing, answer_done}
 use Rattle.plain_world.proofs.events.answer.Goals as goal

@@ -1,7 +1,7 @@
 use Rattle.std.proofs.Common.{◌≡◌, suc, ap, subst, ◌∙◌, true}
 use Rattle.std.specs.Prelude.{IfOk}
 use Rattle.fn_table.specs.Answers.{answer}
-use Rattle.world_model.specs.Program.{Phase, called_back}
+use Rattle.old_world.specs.Program.{Phase, called_back}
 use Rattle.plain_world.specs.Views.{attempt_of, phase_of}
 use Rattle.plain_world.proofs.events.answered.Goals as goal
 

@@ -1,5 +1,5 @@
 use Rattle.std.proofs.Common.{◌≡◌, sym, ap, ◌∙◌, map, slice_get, List, Some}
-use Rattle.world_model.specs.World.{Attempt, with_att, with_state, ended_try, crashed}
+use Rattle.old_world.specs.World.{Attempt, with_att, with_state, ended_try, crashed}
 use Rattle.plain_world.specs.Views.{seen, attempt_of}
 use Rattle.plain_world.proofs.events.crash.Goals as goal
 

@@ -1,6 +1,6 @@
 use Rattle.std.proofs.Common.{◌≡◌, refl, sym, ap, ◌∙◌, map, slice_get, Some}
 use Rattle.std.proofs.lemmas.Result.{on_ok_weaker}
-use Rattle.world_model.specs.Program.{Do, Ask, Nothing, next_of}
+use Rattle.old_world.specs.Program.{Do, Ask, Nothing, next_of}
 use Rattle.plain_world.specs.Views.{seen, attempt_of, invocation_of, doing_of, op_of}
 use Rattle.plain_world.proofs.Effects.{Found, step_none, step_lost, step_nothing, step_ask, step_done}
 use Rattle.plain_world.proofs.events.step.Goals as goal

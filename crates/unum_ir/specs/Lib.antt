@@ -1,0 +1,10 @@
+pub mod Flat
+pub mod Calls
+pub mod WellFormed
+pub mod Laws
+pub mod Given
+pub mod Views
+pub mod Kinds
+pub mod Finishing
+pub mod Walking
+pub mod Forming
