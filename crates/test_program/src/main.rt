@@ -17,13 +17,16 @@
 //! - `plan step N | twin N | pick LEN OF`: what the plan of the bundle says;
 //! - `begin STATE RAW`, `finish STATE RAW USED ANSWER` and `stop STATE HOP RAW USED ANSWER`: what a state of the machine in
 //!   `machine` does first, how it goes on after an answer, and where its scope stops next (STATE is `-` for the Enter);
-//! - `join ANSWER | ANSWER ..`: what the branches of a fan come to.
+//! - `join ANSWER | ANSWER ..`: what the branches of a fan come to;
+//! - `flat ..` and `joined ..`: the same as `stop` and `join`, by the machine's flat code;
+//! - `walk NODE HOP VALUE`: where that code stops from a node on; `code RAW`: what its functions are, and a fan's first inputs.
 //!
 //! An ANSWER is `ok VALUE` or `fail ERROR CAUSE`. Lines that begin with `#` are printed as they are.
 #![tactic(auto)]
 
 mod calls;
 mod fault;
+mod flat;
 mod given;
 mod machine;
 mod plans;
@@ -32,6 +35,7 @@ mod worlds;
 
 use calls::{prefixes, tool_case};
 use fault::Fault;
+use flat::code;
 use given::{Given, split_word};
 use plans::plan;
 use std::alloc::Global;
@@ -63,6 +67,7 @@ fn run(alloc: Global, given: &Given, out: &mut String, line: &str) -> Result<(),
         "plan" => plan(alloc, out, given.bytes(), rest),
         "join" => join(alloc, out, rest),
         "begin" | "finish" | "stop" => visit(alloc, out, word, rest),
+        "flat" | "walk" | "code" | "joined" => code(alloc, out, word, rest),
         "#" => Ok(()),
         _ => Err(Fault::NotRead),
     }

@@ -10,7 +10,7 @@ use unum_json::{
     Fault as Failure, Items, Json, Outcome, Text, outcome_json, read, to_json, to_text,
 };
 
-fn json(alloc: Global, text: &str) -> Result<Json, Fault> {
+pub fn json(alloc: Global, text: &str) -> Result<Json, Fault> {
     let value = read(alloc, text.as_bytes()).map_err(|_| Fault::NotRead)?;
     to_json(alloc, &value).map_err(|_| Fault::NotRead)
 }
@@ -43,7 +43,7 @@ fn outcome(alloc: Global, words: &str) -> Result<Outcome, Fault> {
     Ok(Outcome::Failed(Failure { error, cause }))
 }
 
-fn push_json(alloc: Global, out: &mut String, value: &Json) -> Result<(), Fault> {
+pub fn push_json(alloc: Global, out: &mut String, value: &Json) -> Result<(), Fault> {
     let text = to_text(alloc, value)?;
     out.push_str(text.as_str())?;
     Ok(())
@@ -58,7 +58,7 @@ fn push_all(alloc: Global, out: &mut String, values: &Items<Json>) -> Result<(),
     Ok(())
 }
 
-fn push_over(alloc: Global, out: &mut String, outcome: &Outcome) -> Result<(), Fault> {
+pub fn push_over(alloc: Global, out: &mut String, outcome: &Outcome) -> Result<(), Fault> {
     let value = outcome_json(alloc, outcome)?;
     out.push_str("over ")?;
     let pushed = push_json(alloc, out, &value);
@@ -72,7 +72,7 @@ fn tell_used(out: &mut String, used: &Used) -> Result<(), Fault> {
 }
 
 /// Adds a stop at a state.
-fn push_stop(
+pub fn push_stop(
     alloc: Global,
     out: &mut String,
     name: &str,
@@ -161,14 +161,14 @@ fn visited<'m>(block: &'m Block, name: &'m Text) -> Visited<'m> {
 
 /// What the visit of a state had.
 #[derive(Drop)]
-struct Had {
-    raw: Json,
-    used: Used,
-    answer: Outcome,
+pub struct Had {
+    pub raw: Json,
+    pub used: Used,
+    pub answer: Outcome,
 }
 
 /// The same, from the words `RAW USED ANSWER`.
-fn read_had(alloc: Global, words: &str) -> Result<Had, Fault> {
+pub fn read_had(alloc: Global, words: &str) -> Result<Had, Fault> {
     let (raw, words) = parted(words, " ")?;
     let (list, words) = parted(words, " ")?;
     let used = used(alloc, list)?;
@@ -265,7 +265,7 @@ pub fn visit(alloc: Global, out: &mut String, word: &str, words: &str) -> Result
     told
 }
 
-fn push_outcomes(alloc: Global, outcomes: &mut Vec<Outcome>, list: &str) -> Result<(), Fault> {
+pub fn push_outcomes(alloc: Global, outcomes: &mut Vec<Outcome>, list: &str) -> Result<(), Fault> {
     for words in list.split('|') {
         outcomes.push(outcome(alloc, words.trim())?)?;
     }

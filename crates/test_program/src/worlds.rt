@@ -25,11 +25,11 @@ fn with_sessions(alloc: Global, opening: Opening, inputs: (i64, i64)) -> Result<
     let mut sessions = Items::new(alloc);
     sessions.push(Session {
         machine: 0,
-        input: Json::Int(inputs.0),
+        input: Json::whole(inputs.0),
     })?;
     sessions.push(Session {
         machine: 0,
-        input: Json::Int(inputs.1),
+        input: Json::whole(inputs.1),
     })?;
     if opening.machines.is_empty() {
         drop(opening);
@@ -117,7 +117,7 @@ fn answer(
     input: i64,
     ticket: u32,
 ) -> Result<(), ApplyError> {
-    match BuiltIns::new(alloc).answer(kind, &Json::Int(input), ticket) {
+    match BuiltIns::new(alloc).answer(kind, &Json::whole(input), ticket) {
         Ok(done) => world.answer(alloc, &done),
         Err(_) => Err(ApplyError::NoMemory),
     }
