@@ -1,0 +1,7 @@
+pub mod Steps
+pub mod Judging
+pub mod Alike
+pub mod Rowed
+pub mod Leaves
+pub mod RuleBack
+pub mod Back

@@ -1,0 +1,9 @@
+use Rattle.std.proofs.Common.{◌≡◌, ◌++◌, map, drop, codes}
+use Rattle.serde_json.specs.View.{view}
+use Rattle.asl_read.specs.Parts.{list_in}
+use Rattle.ir_text.specs.Spelled.{node_rule_of}
+use Rattle.ir_text.proofs.spelling.node_rules.Given as goal
+
+abbrev pub invariant-loop-item : goal.invariant-loop-item
+invariant-loop-item l = map node_rule_of (list_in (codes "rules") (view l.value)) ≡ l.found
+    ++ map node_rule_of (map view (drop l.item-index l.item-items))
