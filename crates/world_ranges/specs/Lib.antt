@@ -1,0 +1,4 @@
+pub mod Roles
+pub mod Ranges
+pub mod Worlds
+pub mod Flat
