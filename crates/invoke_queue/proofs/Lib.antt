@@ -1,0 +1,7 @@
+pub mod Ranks
+pub mod Counts
+pub mod Sets
+pub mod Listed
+pub mod Kept
+pub mod Rising
+pub mod Following

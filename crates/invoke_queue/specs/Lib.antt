@@ -1,0 +1,5 @@
+pub mod Numbers
+pub mod Queue
+pub mod Plans
+pub mod Codes
+pub mod Worlds
