@@ -1,5 +1,6 @@
 use asl_model::VRule;
 use asl_read::LRule;
+use ir_text::IRule;
 use unum_json::{Items, NoMemory, Text};
 
 /// A rule of bundles that are read and whose machines are valid.
@@ -24,6 +25,8 @@ pub enum RuleCode {
     Reading(LRule),
     /// A rule of what was read.
     Bundle(BRule),
+    /// A rule of the text of flat code.
+    Flat(IRule),
 }
 
 /// A rule of validity that a machine breaks, with the state that is named for it.

@@ -1,8 +1,9 @@
-//! Asks `validate` about bundles, good and broken at every rule and field, and prints its status and what it writes. What it has to print was
-//! made by an independent interpreter of the same rules.
+//! Asks `validate`, `compile` and `ir` about texts, good and broken at every rule and field, and prints the status and what is written. What it has to
+//! print was made by an independent interpreter of the same rules.
 //!
-//! A line `base JSON` gives a bundle. A line `edited OLD => NEW`, or with several edits `edited OLD => NEW && OLD => NEW`,
-//! asks about that bundle with each OLD, which stands there once, in another form; a line `text BYTES` about these bytes.
+//! A line `command WORD` says which command is asked from there on. A line `base JSON` gives a text. A line `edited OLD => NEW`, or
+//! with several edits `edited OLD => NEW && OLD => NEW`, asks about that text with each OLD, which stands there once, in another
+//! form; a line `text BYTES` about these bytes.
 #![tactic(auto)]
 
 use std::alloc::{AllocError, Global};
@@ -54,10 +55,10 @@ fn with_edits(alloc: Global, base: &str, edits: &str) -> Result<String, Trouble>
     Ok(text)
 }
 
-/// What `validate` answers to these bytes, and what it writes.
-fn validate(alloc: Global, bytes: &[u8]) -> Result<(Status, MemSink), Trouble> {
+/// What a command answers to these bytes, and what it writes.
+fn answer(alloc: Global, command: &str, bytes: &[u8]) -> Result<(Status, MemSink), Trouble> {
     let mut words = Items::new(alloc);
-    words.push(Text::from_str(alloc, "validate")?)?;
+    words.push(Text::from_str(alloc, command)?)?;
     let mut source = MemSource::new(alloc, bytes, &[])?;
     let mut out = MemSink::new(alloc, ROOM, &[])?;
     let mut desk = Desk::Empty;
@@ -77,26 +78,39 @@ fn show(rt: &impl Print, answer: Result<(Status, MemSink), Trouble>) -> io::Resu
     }
 }
 
-/// Asks about the bundle with the edits of a line.
-fn ask(alloc: Global, base: &str, edits: &str) -> Result<(Status, MemSink), Trouble> {
+/// Asks about the text with the edits of a line.
+fn ask(
+    alloc: Global,
+    command: &str,
+    base: &str,
+    edits: &str,
+) -> Result<(Status, MemSink), Trouble> {
     let text = with_edits(alloc, base, edits)?;
-    validate(alloc, text.as_bytes())
+    answer(alloc, command, text.as_bytes())
+}
+
+/// Makes a text out of another one.
+fn replace(text: &mut String, with: &str) -> Result<(), AllocError> {
+    text.clear();
+    text.push_str(with)
 }
 
 fn main(rt: HostRuntime) -> io::Result<()> {
     let alloc = rt.alloc();
+    let mut command = String::from_str(alloc, "validate")?;
     let mut base = String::new(alloc);
     for line in rt.lines(alloc) {
         let line = line?;
         let line = line.as_str();
-        if let Some(text) = line.strip_prefix("base ") {
-            base.clear();
-            base.push_str(text)?;
-            show(&rt, validate(alloc, text.as_bytes()))?;
+        if let Some(word) = line.strip_prefix("command ") {
+            replace(&mut command, word)?;
+        } else if let Some(text) = line.strip_prefix("base ") {
+            replace(&mut base, text)?;
+            show(&rt, answer(alloc, command.as_str(), text.as_bytes()))?;
         } else if let Some(edits) = line.strip_prefix("edited ") {
-            show(&rt, ask(alloc, base.as_str(), edits))?;
+            show(&rt, ask(alloc, command.as_str(), base.as_str(), edits))?;
         } else if let Some(text) = line.strip_prefix("text ") {
-            show(&rt, validate(alloc, text.as_bytes()))?;
+            show(&rt, answer(alloc, command.as_str(), text.as_bytes()))?;
         }
     }
     Ok(())

@@ -1,9 +1,11 @@
 -- What is due for the words and the bytes, and what an answer to it shows.
-use Rattle.std.proofs.Common.{◌≡◌, ℕ, ◌<◌, List, [], length, Option, Some, None, Err, Ok, Result, IfSome, refl, sym, ap, subst, length-append, arith}
+use Rattle.std.proofs.Common.{◌≡◌, ℕ, ◌<◌, ◌⊎◌, inl, inr, List, [], length, Option, Some, None, Err, Ok, Result, IfSome, refl, sym, ap, subst, ◌∙◌, length-append, arith}
 use Rattle.std.specs.Io.KnownBytes.{Keeps, Appends, IsAtEnd}
 use Rattle.std.proofs.lemmas.Bool.{lt-ltb}
 use Rattle.unum_io.specs.Told.{GaveMore}
 use Rattle.asl_read.specs.declared.fault.LRule.TheVariants as lrule
+use Rattle.unum_ir.specs.declared.ir.Ir.{Ir}
+use Rattle.unum_ir.specs.WellFormed.{IsWellFormed}
 use Rattle.bundle_read.specs.Accepted.{Accepted, IsAccepted}
 use Rattle.bundle_read.specs.Judged.{judged}
 use Rattle.bundle_read.specs.declared.refusal.RuleCode.TheVariants as code
@@ -15,11 +17,17 @@ use Rattle.unum_cli.specs.declared.answer.Desk.TheVariants.{Empty, Open}
 use Rattle.unum_cli.specs.declared.answer.Status.{Status}
 use Rattle.unum_cli.specs.declared.answer.Status.TheVariants.{Written, Refused, Usage, ReadFault, WriteFault, Spent, NoMemory}
 use Rattle.unum_cli.specs.declared.commands.Command.{Command}
-use Rattle.unum_cli.specs.declared.commands.Command.TheVariants.{Validate, Simulate}
+use Rattle.unum_cli.specs.declared.commands.Command.TheVariants as command
+use Rattle.unum_cli.specs.declared.commands.BundleCommand.{BundleCommand}
+use Rattle.unum_cli.specs.declared.commands.BundleCommand.TheVariants.{Validate, Compile, Simulate}
+use Rattle.unum_cli.specs.declared.taking.TakeError.{TakeError}
+use Rattle.unum_cli.specs.declared.taking.TakeError.TheVariants as take
+use Rattle.unum_cli.specs.FlatCode.{compiled_text, flat_text, JudgesFlat, JudgesBytes}
 use Rattle.unum_cli.specs.Refused.{refusal_text}
 use Rattle.unum_cli.specs.Runnable.{runnable}
 use Rattle.unum_cli.specs.Valid.{valid_text}
-use Rattle.unum_cli.specs.Tool.{due_opening, due_bundle, Answers, AnswersRefusal, AnswersText, AnswersUsage, AnswersWorld, EndsAfter, EndsRead, HoldsSound, IsOfBundle, Shows}
+use Rattle.unum_cli.specs.Words.{simulation}
+use Rattle.unum_cli.specs.Tool.{due_opening, due_bundle, Answers, AnswersRefusal, AnswersText, AnswersUntaken, AnswersUsage, AnswersWorld, EndsAfter, EndsRead, HoldsSound, IsOfBundle, Shows, Takes, TakesAll, TakesBytes, TakesFlat, AnswersFlat, AnswersJudged, due_judged}
 
 pub each_some : {T : Type 0} (o : Option T) (P : T → Type 0) → ((x : T) → o ≡ Some x → P x) → IfSome o P
 each_some None P h = tt
@@ -29,9 +37,32 @@ more : (bytes : List ℕ) (new : Option (List ℕ)) (max : ℕ) → GaveMore (So
 more bytes None max h = absurd h.told
 more bytes (Some rest) max h = omega (arith, ap length h.told, length-append h.given rest, h.more)
 
-pub too_long : (left new : Option (List ℕ)) (bytes : List ℕ) → left ≡ Some bytes → GaveMore left new 4194304 → judged bytes ≡ Err (One (code.Reading lrule.L0) [])
+-- more bytes than a text may have were given
+pub gave_more : (left new : Option (List ℕ)) (bytes : List ℕ) → left ≡ Some bytes → GaveMore left new 4194304 → 4194304 < length bytes
+gave_more left new bytes e h = more bytes new 4194304 (subst (λ o. GaveMore o new 4194304) e h)
+
+pub too_long : (bytes : List ℕ) → 4194304 < length bytes → judged bytes ≡ Err (One (code.Reading lrule.L0) [])
 unfolding judged
-too_long left new bytes e h = rw (lt-ltb 4194304 (length bytes) (more bytes new 4194304 (subst (λ o. GaveMore o new 4194304) e h))) refl
+too_long bytes h = rw (lt-ltb 4194304 (length bytes) h) refl
+
+pub too_long_flat : (bytes : List ℕ) → 4194304 < length bytes → JudgesFlat (Err (One (code.Reading lrule.L0) [])) bytes
+unfolding JudgesFlat
+too_long_flat bytes h = subst (λ b. JudgesBytes b (Err (One (code.Reading lrule.L0) [])) bytes) (sym (lt-ltb 4194304 (length bytes) h)) refl
+
+-- what is said of bytes that were not taken holds of what they are judged to be
+pub untaken_bytes : (e : TakeError) (bytes : List ℕ) → TakesBytes (Err e) bytes → Takes (Err e) (judged bytes)
+untaken_bytes (take.Refused r) bytes h = too_long bytes h.1 ∙ ap (λ (x : Refusal). let made : Result Accepted Refusal = Err x in made) (sym h.0)
+untaken_bytes take.Fault bytes h = tt
+untaken_bytes take.NoMemory bytes h = tt
+
+pub untaken_flat_bytes : (e : TakeError) (bytes : List ℕ) → TakesBytes (Err e) bytes → TakesFlat (Err e) (λ made. JudgesFlat made bytes)
+untaken_flat_bytes (take.Refused r) bytes h = subst (λ (x : Refusal). JudgesFlat (Err x) bytes) (sym h.0) (too_long_flat bytes h.1)
+untaken_flat_bytes take.Fault bytes h = tt
+untaken_flat_bytes take.NoMemory bytes h = tt
+
+pub some_more : {T : Type 0} (o : Option T) (P Q : T → Type 0) → ((x : T) → P x → Q x) → IfSome o P → IfSome o Q
+some_more None P Q f h = tt
+some_more (Some x) P Q f h = f x h
 
 -- nothing is on the desk
 pub empty_sound : (d : Desk) → d ≡ Empty → HoldsSound d
@@ -58,16 +89,20 @@ refusal_shows c r Written desk old new h = absurd h
 refusal_shows c r Usage desk old new h = absurd h
 refusal_shows c r Spent desk old new h = absurd h
 
-text_shows : (b : Accepted) → IsAccepted b → (status : Status) (desk : Desk) (old new : Option (List ℕ)) → AnswersText (valid_text b) status desk old new → Shows (Some Validate) status desk old new
-text_shows b is Written desk old new h = (h.0, (b, is, h.1))
-text_shows b is WriteFault desk old new h = tt
-text_shows b is ReadFault desk old new h = h
-text_shows b is NoMemory desk old new h = h.1
-text_shows b is (Refused r) desk old new h = absurd h
-text_shows b is Usage desk old new h = absurd h
-text_shows b is Spent desk old new h = absurd h
+told_shows : (c : Option Command) (text : List ℕ) → ((desk : Desk) (old new : Option (List ℕ)) → desk ≡ Empty → Appends old new text → Shows c Written desk old new)
+    → (status : Status) (desk : Desk) (old new : Option (List ℕ)) → AnswersText text status desk old new → Shows c status desk old new
+told_shows c text shown Written desk old new h = shown desk old new h.0 h.1
+told_shows c text shown WriteFault desk old new h = tt
+told_shows c text shown ReadFault desk old new h = h
+told_shows c text shown NoMemory desk old new h = h.1
+told_shows c text shown (Refused r) desk old new h = absurd h
+told_shows c text shown Usage desk old new h = absurd h
+told_shows c text shown Spent desk old new h = absurd h
 
-world_shows : (o : Opening) (limit : ℕ) (status : Status) (desk : Desk) (old new : Option (List ℕ)) → AnswersWorld o limit status desk old new → Shows (Some (Simulate limit)) status desk old new
+pub flat_shows : (ir : Ir) → IsWellFormed ir → (status : Status) (desk : Desk) (old new : Option (List ℕ)) → AnswersText (flat_text ir) status desk old new → Shows (Some command.Ir) status desk old new
+flat_shows ir is status desk old new h = told_shows (Some command.Ir) (flat_text ir) (λ d o n e a. (e, (ir, is, a))) status desk old new h
+
+world_shows : (o : Opening) (limit : ℕ) (status : Status) (desk : Desk) (old new : Option (List ℕ)) → AnswersWorld o limit status desk old new → Shows (Some (simulation limit)) status desk old new
 world_shows o limit Written Empty old new h = absurd h
 world_shows o limit Written (Open w) old new h = (h.0.limit_is, h.0.chosen, h.1, h.2)
 world_shows o limit Spent Empty old new h = absurd h
@@ -78,12 +113,13 @@ world_shows o limit NoMemory desk old new h = h.1
 world_shows o limit (Refused r) desk old new h = absurd h
 world_shows o limit Usage desk old new h = absurd h
 
-opening_shows : (limit : ℕ) (made : Result Opening Refusal) (status : Status) (desk : Desk) (old new : Option (List ℕ)) → Answers (due_opening limit made) status desk old new → Shows (Some (Simulate limit)) status desk old new
+opening_shows : (limit : ℕ) (made : Result Opening Refusal) (status : Status) (desk : Desk) (old new : Option (List ℕ)) → Answers (due_opening limit made) status desk old new → Shows (Some (simulation limit)) status desk old new
 opening_shows limit (Ok o) status desk old new h = world_shows o limit status desk old new h
-opening_shows limit (Err r) status desk old new h = refusal_shows (Some (Simulate limit)) r status desk old new h
+opening_shows limit (Err r) status desk old new h = refusal_shows (Some (simulation limit)) r status desk old new h
 
-pub bundle_shows : (c : Command) (b : Accepted) → IsAccepted b → (status : Status) (desk : Desk) (old new : Option (List ℕ)) → Answers (due_bundle c b) status desk old new → Shows (Some c) status desk old new
-bundle_shows Validate b is status desk old new h = text_shows b is status desk old new h
+pub bundle_shows : (c : BundleCommand) (b : Accepted) → IsAccepted b → (status : Status) (desk : Desk) (old new : Option (List ℕ)) → Answers (due_bundle c b) status desk old new → Shows (Some (command.Bundle c)) status desk old new
+bundle_shows Validate b is status desk old new h = told_shows (Some (command.Bundle Validate)) (valid_text b) (λ d o n e a. (e, (b, is, a))) status desk old new h
+bundle_shows Compile b is status desk old new h = told_shows (Some (command.Bundle Compile)) (compiled_text b) (λ d o n e a. (e, (b, is, a))) status desk old new h
 bundle_shows (Simulate limit) b is status desk old new h = opening_shows limit (runnable b) status desk old new h
 
 -- ---------------------------------------------------------------- the end of the source
@@ -99,6 +135,7 @@ ends_after (One (code.Reading lrule.L6) at) left h = h
 ends_after (One (code.Reading lrule.L7) at) left h = h
 ends_after (One (code.Reading lrule.L8) at) left h = h
 ends_after (One (code.Bundle rule) at) left h = h
+ends_after (One (code.Flat rule) at) left h = h
 ends_after (Many pairs) left h = h
 
 -- the source was read to its end before
@@ -120,3 +157,62 @@ refusal_ends r NoMemory desk old new left h e = tt
 refusal_ends r Written desk old new left h e = absurd h
 refusal_ends r Usage desk old new left h e = absurd h
 refusal_ends r Spent desk old new left h e = absurd h
+
+-- ---------------------------------------------------------------- where nothing was taken
+
+-- whatever is due, a read fault and want of memory may come before it
+untaken_due : (r : Refusal) (status : Status) (desk : Desk) (old new : Option (List ℕ)) → (status ≡ ReadFault) ⊎ (status ≡ NoMemory) → desk ≡ Empty → Keeps old new → AnswersRefusal r status desk old new
+untaken_due r status desk old new (inl e) d k = subst (λ s. AnswersRefusal r s desk old new) (sym e) (d, k)
+untaken_due r status desk old new (inr e) d k = subst (λ s. AnswersRefusal r s desk old new) (sym e) (d, k)
+
+untaken_text : (text : List ℕ) (status : Status) (desk : Desk) (old new : Option (List ℕ)) → (status ≡ ReadFault) ⊎ (status ≡ NoMemory) → desk ≡ Empty → Keeps old new → AnswersText text status desk old new
+untaken_text text status desk old new (inl e) d k = subst (λ s. AnswersText text s desk old new) (sym e) (d, k)
+untaken_text text status desk old new (inr e) d k = subst (λ s. AnswersText text s desk old new) (sym e) (d, k)
+
+untaken_world : (o : Opening) (limit : ℕ) (status : Status) (desk : Desk) (old new : Option (List ℕ)) → (status ≡ ReadFault) ⊎ (status ≡ NoMemory) → desk ≡ Empty → Keeps old new → AnswersWorld o limit status desk old new
+untaken_world o limit status desk old new (inl e) d k = subst (λ s. AnswersWorld o limit s desk old new) (sym e) (d, k)
+untaken_world o limit status desk old new (inr e) d k = subst (λ s. AnswersWorld o limit s desk old new) (sym e) (inl d, k)
+
+untaken_opening : (limit : ℕ) (made : Result Opening Refusal) (status : Status) (desk : Desk) (old new : Option (List ℕ)) → (status ≡ ReadFault) ⊎ (status ≡ NoMemory) → desk ≡ Empty → Keeps old new → Answers (due_opening limit made) status desk old new
+untaken_opening limit (Ok o) status desk old new s d k = untaken_world o limit status desk old new s d k
+untaken_opening limit (Err r) status desk old new s d k = untaken_due r status desk old new s d k
+
+untaken_judged : (c : BundleCommand) (due : Result Accepted Refusal) (status : Status) (desk : Desk) (old new : Option (List ℕ)) → (status ≡ ReadFault) ⊎ (status ≡ NoMemory) → desk ≡ Empty → Keeps old new → Answers (due_judged c due) status desk old new
+untaken_judged c (Err r) status desk old new s d k = untaken_due r status desk old new s d k
+untaken_judged Validate (Ok b) status desk old new s d k = untaken_text (valid_text b) status desk old new s d k
+untaken_judged Compile (Ok b) status desk old new s d k = untaken_text (compiled_text b) status desk old new s d k
+untaken_judged (Simulate limit) (Ok b) status desk old new s d k = untaken_opening limit (runnable b) status desk old new s d k
+
+-- what is told of flat code that was judged is due
+pub judged_due : (made : Result Ir Refusal) (bytes : List ℕ) (status : Status) (desk : Desk) (old new : Option (List ℕ)) → JudgesFlat made bytes → AnswersJudged made status desk old new → AnswersFlat bytes status desk old new
+judged_due made bytes Written desk old new t h = (made, t, h)
+judged_due made bytes (Refused r) desk old new t h = (made, t, h)
+judged_due made bytes Usage desk old new t h = (made, t, h)
+judged_due made bytes WriteFault desk old new t h = (made, t, h)
+judged_due made bytes Spent desk old new t h = (made, t, h)
+judged_due (Ok ir) bytes ReadFault desk old new t h = h
+judged_due (Ok ir) bytes NoMemory desk old new t h = h
+judged_due (Err r) bytes ReadFault desk old new t h = h
+judged_due (Err r) bytes NoMemory desk old new t h = h
+
+-- what is told of a bundle that was not taken is due
+pub untaken_bundle_due : (c : BundleCommand) (e : TakeError) (due : Result Accepted Refusal) (status : Status) (desk : Desk) (old new : Option (List ℕ)) → Takes (Err e) due → AnswersUntaken e status desk old new → Answers (due_judged c due) status desk old new
+untaken_bundle_due c (take.Refused r) due status desk old new t h = subst (λ x. Answers (due_judged c x) status desk old new) (sym t) h
+untaken_bundle_due c take.Fault due status desk old new t h = untaken_judged c due status desk old new (inl h.0) h.1 h.2
+untaken_bundle_due c take.NoMemory due status desk old new t h = untaken_judged c due status desk old new (inr h.0) h.1 h.2
+
+-- and so of flat code
+pub untaken_flat_due : (e : TakeError) (bytes : List ℕ) (status : Status) (desk : Desk) (old new : Option (List ℕ)) → TakesFlat (Err e) (λ made. JudgesFlat made bytes) → AnswersUntaken e status desk old new → AnswersFlat bytes status desk old new
+untaken_flat_due (take.Refused r) bytes status desk old new t h = judged_due (Err r) bytes status desk old new t h
+untaken_flat_due take.Fault bytes status desk old new t h = subst (λ s. AnswersFlat bytes s desk old new) (sym h.0) (h.1, h.2)
+untaken_flat_due take.NoMemory bytes status desk old new t h = subst (λ s. AnswersFlat bytes s desk old new) (sym h.0) (h.1, h.2)
+
+pub untaken_shows : (c : Option Command) (e : TakeError) (status : Status) (desk : Desk) (old new : Option (List ℕ)) → AnswersUntaken e status desk old new → Shows c status desk old new
+untaken_shows c (take.Refused r) status desk old new h = refusal_shows c r status desk old new h
+untaken_shows c take.Fault status desk old new h = subst (λ s. Shows c s desk old new) (sym h.0) (h.1, h.2)
+untaken_shows c take.NoMemory status desk old new h = subst (λ s. Shows c s desk old new) (sym h.0) h.2
+
+pub untaken_ends : (A : Type 0) (e : TakeError) (status : Status) (desk : Desk) (old new left : Option (List ℕ)) → AnswersUntaken e status desk old new → TakesAll {A = A} (Err e) left → EndsRead status left
+untaken_ends A (take.Refused r) status desk old new left h t = refusal_ends r status desk old new left h t
+untaken_ends A take.Fault status desk old new left h t = subst (λ s. EndsRead s left) (sym h.0) tt
+untaken_ends A take.NoMemory status desk old new left h t = subst (λ s. EndsRead s left) (sym h.0) tt

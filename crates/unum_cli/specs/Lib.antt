@@ -1,4 +1,5 @@
 pub mod Codes
+pub mod FlatCode
 pub mod Refused
 pub mod Report
 pub mod Runnable

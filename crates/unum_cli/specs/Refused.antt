@@ -4,10 +4,11 @@ use Rattle.unum_json.specs.Written.{quoted}
 use Rattle.asl_model.specs.declared.validity.VRule.{VRule}
 use Rattle.asl_model.specs.declared.validity.VRule.TheVariants.{V1, V2, V3, V4, V5, V6, V7, V8, V9, V10, V11}
 use Rattle.asl_read.specs.Checks.{rule_name}
+use Rattle.ir_text.specs.Reads.{rule_name as flat_name}
 use Rattle.bundle_read.specs.declared.refusal.BRule.{BRule}
 use Rattle.bundle_read.specs.declared.refusal.BRule.TheVariants.{B1, B2, B3, B4, B5}
 use Rattle.bundle_read.specs.declared.refusal.RuleCode.{RuleCode}
-use Rattle.bundle_read.specs.declared.refusal.RuleCode.TheVariants.{Reading, Bundle}
+use Rattle.bundle_read.specs.declared.refusal.RuleCode.TheVariants.{Reading, Bundle, Flat}
 use Rattle.bundle_read.specs.declared.refusal.BrokenPair.{BrokenPair}
 use Rattle.bundle_read.specs.declared.refusal.Refusal.{Refusal}
 use Rattle.bundle_read.specs.declared.refusal.Refusal.TheVariants.{One, Many}
@@ -22,6 +23,7 @@ bundle_name B5 = codes "B5"
 abbrev pub code_name : RuleCode → List ℕ
 code_name (Reading rule) = rule_name rule
 code_name (Bundle rule) = bundle_name rule
+code_name (Flat rule) = flat_name rule
 
 abbrev pub valid_name : VRule → List ℕ
 valid_name V1 = codes "V1"

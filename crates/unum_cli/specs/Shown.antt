@@ -11,8 +11,7 @@ use Rattle.unum_world.specs.declared.planning.Plan.{Plan}
 use Rattle.unum_world.specs.declared.queue.Event.{Event}
 use Rattle.unum_world.specs.declared.queue.Event.TheVariants.{Deliver, Crash, GiveUp}
 use Rattle.unum_world.specs.Sessions.{Ended}
-use Rattle.unum_cli.specs.declared.commands.Command.TheVariants.{Simulate}
-use Rattle.unum_cli.specs.Words.{command}
+use Rattle.unum_cli.specs.Words.{command, simulation}
 use Rattle.unum_cli.specs.Report.{outcome_text, session_text, entry_text, totals_text, report}
 
 -- ---------------------------------------------------------------- words
@@ -26,15 +25,15 @@ joined n = codes "simulate" ∷ (codes "--limit=" ++ n) ∷ []
 -- 1 to 10,000,000, and 1,000,000 where none is given
 abbrev pub LimitBounds : Type 0
 LimitBounds =
-    (command (codes "simulate" ∷ []) ≡ Some (Simulate 1000000))
-    × (command (spaced (codes "0")) ≡ None) × (command (spaced (codes "1")) ≡ Some (Simulate 1))
-    × (command (spaced (codes "10000000")) ≡ Some (Simulate 10000000)) × (command (spaced (codes "10000001")) ≡ None)
-    × (command (joined (codes "10000000")) ≡ Some (Simulate 10000000)) × (command (joined (codes "10000001")) ≡ None)
+    (command (codes "simulate" ∷ []) ≡ Some (simulation 1000000))
+    × (command (spaced (codes "0")) ≡ None) × (command (spaced (codes "1")) ≡ Some (simulation 1))
+    × (command (spaced (codes "10000000")) ≡ Some (simulation 10000000)) × (command (spaced (codes "10000001")) ≡ None)
+    × (command (joined (codes "10000000")) ≡ Some (simulation 10000000)) × (command (joined (codes "10000001")) ≡ None)
 
 -- one to eight digits
 abbrev pub LimitDigits : Type 0
 LimitDigits =
-    (command (spaced (codes "00000001")) ≡ Some (Simulate 1)) × (command (spaced (codes "000000001")) ≡ None)
+    (command (spaced (codes "00000001")) ≡ Some (simulation 1)) × (command (spaced (codes "000000001")) ≡ None)
     × (command (spaced []) ≡ None) × (command (spaced (codes "+1")) ≡ None) × (command (spaced (codes "1a")) ≡ None)
 
 -- ---------------------------------------------------------------- the report

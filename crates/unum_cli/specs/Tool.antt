@@ -1,8 +1,11 @@
 -- What the top call answers, writes and leaves on the desk.
-use Rattle.std.specs.Prelude.{◌≡◌, ℕ, ◌≤◌, ◌⊎◌, List, length, codes, Option, Some, None, Result, Ok, Err}
+use Rattle.std.specs.Prelude.{◌≡◌, ℕ, ◌<◌, ◌≤◌, ◌⊎◌, List, [], Vec, length, codes, Option, Some, None, Result, Ok, Err}
+use Rattle.std.specs.declared.alloc.Global.{Global}
 use Rattle.std.specs.Io.KnownBytes.{Keeps, Appends, IsAtEnd}
 use Rattle.unum_io.specs.Told.{TookFront}
 use Rattle.asl_read.specs.declared.fault.LRule.TheVariants.{L0}
+use Rattle.unum_ir.specs.declared.ir.Ir.{Ir as FlatIr}
+use Rattle.unum_ir.specs.WellFormed.{IsWellFormed}
 use Rattle.bundle_read.specs.Accepted.{Accepted, IsAccepted}
 use Rattle.bundle_read.specs.Judged.{judged}
 use Rattle.bundle_read.specs.declared.refusal.RuleCode.TheVariants.{Reading}
@@ -14,13 +17,16 @@ use Rattle.unum_world.specs.Seen.{Past, now, IsChosen}
 use Rattle.unum_world.specs.Answers.{IsEnabledSome}
 use Rattle.unum_world.specs.Sound.{IsSound}
 use Rattle.unum_cli.specs.declared.commands.Command.{Command}
-use Rattle.unum_cli.specs.declared.commands.Command.TheVariants.{Validate, Simulate}
+use Rattle.unum_cli.specs.declared.commands.Command.TheVariants.{Bundle, Ir}
+use Rattle.unum_cli.specs.declared.commands.BundleCommand.{BundleCommand}
+use Rattle.unum_cli.specs.declared.commands.BundleCommand.TheVariants.{Validate, Compile, Simulate}
 use Rattle.unum_cli.specs.declared.answer.Status.{Status}
 use Rattle.unum_cli.specs.declared.answer.Status.TheVariants.{Written, Refused, Usage, ReadFault, WriteFault, Spent, NoMemory}
 use Rattle.unum_cli.specs.declared.answer.Desk.{Desk}
 use Rattle.unum_cli.specs.declared.answer.Desk.TheVariants.{Empty, Open}
 use Rattle.unum_cli.specs.declared.taking.TakeError.{TakeError}
 use Rattle.unum_cli.specs.declared.taking.TakeError.TheVariants as take
+use Rattle.unum_cli.specs.FlatCode.{compiled_text, flat_text, JudgesFlat}
 use Rattle.unum_cli.specs.Refused.{refusal_text}
 use Rattle.unum_cli.specs.Runnable.{runnable}
 use Rattle.unum_cli.specs.Valid.{valid_text}
@@ -30,31 +36,41 @@ use Rattle.unum_cli.specs.Report.{report}
 abbrev pub usage_text : List ℕ
 usage_text = codes "usage: unum validate | compile | ir | central | simulate | run | make\n"
 
+abbrev pub Bytes : Type 0
+Bytes = Vec ℕ Global
+
 -- ---------------------------------------------------------------- what is due
 
--- what is due for some words and bytes: the usage line, a refusal, a text, or the simulation of an opening to a limit
+-- what is due for some words and bytes: the usage line, a refusal, a text, the simulation of an opening to a limit, or what is
+-- told of bytes as the text of flat code
 pub data Due : Type 0 where
   Usage_due : Due
   Refusal_due : Refusal → Due
   Text_due : List ℕ → Due
   World_due : Opening → (limit : ℕ) → Due
+  Flat_due : (bytes : List ℕ) → Due
 
 abbrev pub due_opening : (limit : ℕ) → Result Opening Refusal → Due
 due_opening limit (Ok o) = World_due o limit
 due_opening limit (Err r) = Refusal_due r
 
 -- what a command is to do with a bundle
-abbrev pub due_bundle : Command → Accepted → Due
+abbrev pub due_bundle : BundleCommand → Accepted → Due
 due_bundle Validate b = Text_due (valid_text b)
+due_bundle Compile b = Text_due (compiled_text b)
 due_bundle (Simulate limit) b = due_opening limit (runnable b)
 
-abbrev pub due_bytes : Command → Result Accepted Refusal → Due
-due_bytes c (Ok b) = due_bundle c b
-due_bytes c (Err r) = Refusal_due r
+abbrev pub due_judged : BundleCommand → Result Accepted Refusal → Due
+due_judged c (Ok b) = due_bundle c b
+due_judged c (Err r) = Refusal_due r
+
+abbrev pub due_bytes : Command → List ℕ → Due
+due_bytes (Bundle c) bytes = due_judged c (judged bytes)
+due_bytes Ir bytes = Flat_due bytes
 
 abbrev pub due_words : Option Command → List ℕ → Due
 due_words None bytes = Usage_due
-due_words (Some c) bytes = due_bytes c (judged bytes)
+due_words (Some c) bytes = due_bytes c bytes
 
 abbrev pub due : List (List ℕ) → List ℕ → Due
 due words bytes = due_words (command words) bytes
@@ -90,6 +106,12 @@ AnswersRefusal due ReadFault desk old new = (desk ≡ Empty) × Keeps old new
 AnswersRefusal due NoMemory desk old new = (desk ≡ Empty) × Keeps old new
 AnswersRefusal due _ desk old new = ⊥
 
+-- why nothing was taken is told, and nothing is on the desk
+abbrev pub AnswersUntaken : TakeError → Status → Desk → (old new : Option (List ℕ)) → Type 0
+AnswersUntaken (take.Refused r) status desk old new = AnswersRefusal r status desk old new
+AnswersUntaken take.Fault status desk old new = (status ≡ ReadFault) × (desk ≡ Empty) × Keeps old new
+AnswersUntaken take.NoMemory status desk old new = (status ≡ NoMemory) × (desk ≡ Empty) × Keeps old new
+
 -- the text is written, and nothing is on the desk
 abbrev pub AnswersText : List ℕ → Status → Desk → (old new : Option (List ℕ)) → Type 0
 AnswersText text Written desk old new = (desk ≡ Empty) × Appends old new text
@@ -107,20 +129,34 @@ AnswersWorld o limit ReadFault desk old new = (desk ≡ Empty) × Keeps old new
 AnswersWorld o limit NoMemory desk old new = ((desk ≡ Empty) ⊎ OnDesk desk (λ p. IsWorldOf o limit p)) × Keeps old new
 AnswersWorld o limit _ desk old new = ⊥
 
+-- what is told of flat code that was judged so
+abbrev pub AnswersJudged : Result FlatIr Refusal → Status → Desk → (old new : Option (List ℕ)) → Type 0
+AnswersJudged (Ok ir) status desk old new = AnswersText (flat_text ir) status desk old new
+AnswersJudged (Err r) status desk old new = AnswersRefusal r status desk old new
+
+-- the bytes are judged and that is told, or nothing is, and nothing is on the desk
+abbrev pub AnswersFlat : (bytes : List ℕ) → Status → Desk → (old new : Option (List ℕ)) → Type 0
+AnswersFlat bytes ReadFault desk old new = (desk ≡ Empty) × Keeps old new
+AnswersFlat bytes NoMemory desk old new = (desk ≡ Empty) × Keeps old new
+AnswersFlat bytes status desk old new = (made : Result FlatIr Refusal) × JudgesFlat made bytes × AnswersJudged made status desk old new
+
 -- an answer, the desk and the bytes taken before and after are what is due, or a fault or want of memory came between
 abbrev pub Answers : Due → Status → Desk → (old new : Option (List ℕ)) → Type 0
 Answers Usage_due status desk old new = AnswersUsage status desk old new
 Answers (Refusal_due r) status desk old new = AnswersRefusal r status desk old new
 Answers (Text_due text) status desk old new = AnswersText text status desk old new
 Answers (World_due o limit) status desk old new = AnswersWorld o limit status desk old new
+Answers (Flat_due bytes) status desk old new = AnswersFlat bytes status desk old new
 
 -- ---------------------------------------------------------------- whatever the bytes were
 
 -- what is written of a bundle or of a world, of which the command is not asked to tell from what bytes it came
 abbrev pub ShowsDone : Option Command → Status → Desk → (old new : Option (List ℕ)) → Type 0
-ShowsDone (Some Validate) Written desk old new = (desk ≡ Empty) × ((b : Accepted) × IsAccepted b × Appends old new (valid_text b))
-ShowsDone (Some (Simulate limit)) Written desk old new = OnDesk desk (λ p. (p.limit ≡ limit) × IsChosen p × IsDrained (now p) × Appends old new (report p))
-ShowsDone (Some (Simulate limit)) Spent desk old new = OnDesk desk (λ p. (p.limit ≡ limit) × IsChosen p × IsSpent p × Appends old new (report p))
+ShowsDone (Some (Bundle Validate)) Written desk old new = (desk ≡ Empty) × ((b : Accepted) × IsAccepted b × Appends old new (valid_text b))
+ShowsDone (Some (Bundle Compile)) Written desk old new = (desk ≡ Empty) × ((b : Accepted) × IsAccepted b × Appends old new (compiled_text b))
+ShowsDone (Some Ir) Written desk old new = (desk ≡ Empty) × ((ir : FlatIr) × IsWellFormed ir × Appends old new (flat_text ir))
+ShowsDone (Some (Bundle (Simulate limit))) Written desk old new = OnDesk desk (λ p. (p.limit ≡ limit) × IsChosen p × IsDrained (now p) × Appends old new (report p))
+ShowsDone (Some (Bundle (Simulate limit))) Spent desk old new = OnDesk desk (λ p. (p.limit ≡ limit) × IsChosen p × IsSpent p × Appends old new (report p))
 ShowsDone c status desk old new = ⊥
 
 -- The text that is written is the one of the answer. After a refusal, the usage line and a read fault the desk is empty, and
@@ -157,15 +193,27 @@ EndsRead Spent left = IsAtEnd left
 EndsRead (Refused r) left = EndsAfter r left
 EndsRead _ left = Unit {0}
 
--- what a reader of a bundle from a source answers, unless a read fails or memory runs out
-abbrev pub Takes : Result Accepted TakeError → Result Accepted Refusal → Type 0
-Takes (Ok b) due = due ≡ Ok b
+-- what a reader of what was judged answers, unless a read fails or memory runs out
+abbrev pub Takes : {A : Type 0} → Result A TakeError → Result A Refusal → Type 0
+Takes (Ok x) due = due ≡ Ok x
 Takes (Err (take.Refused r)) due = due ≡ Err r
 Takes (Err _) due = Unit {0}
 
+-- the same of flat code, where what is judged is a relation
+abbrev pub TakesFlat : Result FlatIr TakeError → (Result FlatIr Refusal → Type 0) → Type 0
+TakesFlat (Ok ir) Judges = Judges (Ok ir)
+TakesFlat (Err (take.Refused r)) Judges = Judges (Err r)
+TakesFlat (Err _) Judges = Unit {0}
+
+-- what a reader of all bytes answers: these bytes, or that they are more than a text may have
+abbrev pub TakesBytes : Result Bytes TakeError → List ℕ → Type 0
+TakesBytes (Ok taken) bytes = (taken.items ≡ bytes) × (length bytes ≤ 4194304)
+TakesBytes (Err (take.Refused r)) bytes = (r ≡ One (Reading L0) []) × (4194304 < length bytes)
+TakesBytes (Err _) bytes = Unit {0}
+
 -- with these answers it has read the source to its end
-abbrev pub TakesAll : Result Accepted TakeError → Option (List ℕ) → Type 0
-TakesAll (Ok b) left = IsAtEnd left
+abbrev pub TakesAll : {A : Type 0} → Result A TakeError → Option (List ℕ) → Type 0
+TakesAll (Ok x) left = IsAtEnd left
 TakesAll (Err (take.Refused r)) left = EndsAfter r left
 TakesAll (Err _) left = Unit {0}
 

@@ -2,7 +2,8 @@
 use Rattle.std.specs.Prelude.{ℕ, ◌+◌, ◌-◌, ◌*◌, ◌≤◌, ◌&&◌, nat_le, List, [], ◌∷◌, take, drop, length, codes, Option, Some, None, option_map, if◌then◌else◌}
 use Rattle.std.specs.Str.{bytes_eq}
 use Rattle.unum_cli.specs.declared.commands.Command.{Command}
-use Rattle.unum_cli.specs.declared.commands.Command.TheVariants.{Validate, Simulate}
+use Rattle.unum_cli.specs.declared.commands.Command.TheVariants.{Bundle, Ir}
+use Rattle.unum_cli.specs.declared.commands.BundleCommand.TheVariants.{Validate, Compile, Simulate}
 
 abbrev pub Word : Type 0
 Word = List ℕ
@@ -49,11 +50,17 @@ without_options c (w ∷ ws) = None
 abbrev pub with_limit : (ℕ → Command) → List Word → Option Command
 with_limit c ws = option_map c (limit_in ws)
 
+-- the simulation of a bundle, to a limit
+abbrev pub simulation : ℕ → Command
+simulation limit = Bundle (Simulate limit)
+
 -- all commands
 abbrev pub commands : List Row
 commands =
-    record { word = codes "validate"; with_options = without_options Validate }
-    ∷ record { word = codes "simulate"; with_options = with_limit Simulate } ∷ []
+    record { word = codes "validate"; with_options = without_options (Bundle Validate) }
+    ∷ record { word = codes "compile"; with_options = without_options (Bundle Compile) }
+    ∷ record { word = codes "ir"; with_options = without_options Ir }
+    ∷ record { word = codes "simulate"; with_options = with_limit simulation } ∷ []
 
 abbrev pub command_in : List Row → Word → List Word → Option Command
 command_in [] w ws = None
@@ -66,5 +73,5 @@ command (w ∷ ws) = command_in commands w ws
 
 -- a limit is at most 10,000,000
 abbrev pub IsLimited : Command → Type 0
-IsLimited Validate = Unit {0}
-IsLimited (Simulate limit) = limit ≤ 10000000
+IsLimited (Bundle (Simulate limit)) = limit ≤ 10000000
+IsLimited _ = Unit {0}

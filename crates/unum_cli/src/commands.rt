@@ -1,8 +1,21 @@
+//! The commands that are built.
+
+/// What is done with a bundle.
+#[derive(Clone, Copy, Debug, PartialEq, Eq)]
+pub enum BundleCommand {
+    /// Tells how much is in it.
+    Validate,
+    /// Prints the flat code of each of its machines.
+    Compile,
+    /// Runs its world by its plan, for at most so many events.
+    Simulate { limit: u64 },
+}
+
 /// A command with its options.
 #[derive(Clone, Copy, Debug, PartialEq, Eq)]
 pub enum Command {
-    /// Reads a bundle, and tells how much is in it.
-    Validate,
-    /// Runs the world of a bundle by its plan, for at most so many events.
-    Simulate { limit: u64 },
+    /// Reads a bundle, and does this with it.
+    Bundle(BundleCommand),
+    /// Reads the text of flat code, and tells how much is in it.
+    Ir,
 }

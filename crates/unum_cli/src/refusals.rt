@@ -27,6 +27,7 @@ fn code_name(rule: RuleCode) -> &'static str
     match rule {
         RuleCode::Reading(rule) => rule.as_str(),
         RuleCode::Bundle(rule) => bundle_name(rule),
+        RuleCode::Flat(rule) => rule.as_str(),
     }
 }
 
@@ -49,7 +50,7 @@ fn valid_name(rule: VRule) -> &'static str
 }
 
 /// Adds a blank, and a text as JSON.
-fn push_quoted(alloc: Global, out: &mut String, text: &Text) -> Result<(), NoMemory>
+pub(crate) fn push_quoted(alloc: Global, out: &mut String, text: &Text) -> Result<(), NoMemory>
     ensures { OnOk result (string_bytes out.new ≡ string_bytes out.old ++ codes " " ++ quoted text.now) }
 {
     let json = Json::string(copy_text(alloc, text)?);

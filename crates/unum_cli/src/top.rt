@@ -1,14 +1,17 @@
-ghost use Rattle.std.specs.Prelude.{◌≡◌, ◌⊎◌, ◌≤◌, [], Err, None, IfSome, IfOk};
+ghost use Rattle.std.specs.Prelude.{◌≡◌, ◌≢◌, ◌⊎◌, ◌≤◌, [], Err, None, Some, IfSome, IfOk, length};
 ghost use Rattle.unum_io.specs.Causes.{Rose};
 ghost use Rattle.unum_world.specs.Seen.{Fits};
 ghost use Rattle.bundle_read.specs.Accepted.{IsAccepted};
 ghost use Rattle.bundle_read.specs.Judged.{judged};
+ghost use Rattle.unum_ir.specs.WellFormed.{IsWellFormed};
+ghost use Rattle.unum_cli.specs.FlatCode.{compiled_text, flat_text, JudgesFlat};
 ghost use Rattle.unum_cli.specs.Valid.{valid_text};
 ghost use Rattle.unum_cli.specs.Words.{command as command_of, IsLimited};
-ghost use Rattle.unum_cli.specs.Tool.{due, due_bundle, Answers, AnswersRefusal, AnswersText, AnswersUsage, AnswersWorld, IsOfBundle, IsWorldOf, OnDesk, Takes, TakesAll, Shows, HoldsSound, EndsRead, Wrote};
+ghost use Rattle.unum_cli.specs.Tool.{due, due_bundle, due_judged, Answers, AnswersRefusal, AnswersText, AnswersFlat, AnswersUntaken, AnswersUsage, AnswersWorld, IsOfBundle, IsWorldOf, OnDesk, Takes, TakesAll, TakesBytes, TakesFlat, Shows, HoldsSound, EndsRead, Wrote};
 
 use crate::answer::{Desk, Status};
-use crate::commands::Command;
+use crate::commands::{BundleCommand, Command};
+use crate::flat_code::{compiled_text, flat_text, read_flat};
 use crate::not_yet::runnable;
 use crate::refusals::refusal_text;
 use crate::session_report::report;
@@ -18,7 +21,8 @@ use crate::words::command;
 use asl_read::LRule;
 use bundle_read::{Bundle, BundleError, Refusal, RuleCode, read_bundle};
 use std::alloc::Global;
-use unum_io::{ReadAll, Sink, Source, read_all, write_all};
+use unum_io::{Bytes, ReadAll, Sink, Source, read_all, write_all};
+use unum_ir::Ir;
 use unum_json::{Items, Text};
 use unum_world::{Opening, Planned, Settled, World};
 
@@ -65,7 +69,22 @@ fn refuse<K: Sink>(alloc: Global, out: &mut K, refusal: Refusal) -> Status
     finish(out, text.as_str(), Status::Refused(refusal))
 }
 
-/// More bytes than a bundle has.
+/// Tells why nothing was taken from the source.
+fn tell_untaken<K: Sink>(alloc: Global, out: &mut K, error: TakeError) -> Status
+    ensures told { (desk : Desk) → desk ≡ Desk.Empty → AnswersUntaken error result desk (K.taken out.old) (K.taken out.new) }
+    ensures fault { result ≡ Status.ReadFault → error ≡ TakeError.Fault }
+    ensures no_usage { result ≢ Status.Usage }
+    ensures later { K.faults out.old ≤ K.faults out.new }
+    ensures cause { result ≡ Status.WriteFault → Rose (K.faults out.old) (K.faults out.new) }
+{
+    match error {
+        TakeError::Refused(refusal) => refuse(alloc, out, refusal),
+        TakeError::Fault => Status::ReadFault,
+        TakeError::NoMemory => Status::NoMemory,
+    }
+}
+
+/// More bytes than a text has.
 fn too_long(alloc: Global) -> TakeError
     ensures { result ≡ TakeError.Refused (Refusal.One (RuleCode.Reading LRule.L0) []) }
 {
@@ -75,6 +94,47 @@ fn too_long(alloc: Global) -> TakeError
     })
 }
 
+/// All bytes of a source, which is read to its end.
+fn take_bytes<S: Source>(alloc: Global, source: &mut S) -> Result<Bytes, TakeError>
+    ensures told { IfSome (S.left source.old) (λ bytes. TakesBytes result bytes) }
+    ensures within { IfOk result (λ taken. length taken.items ≤ 4194304) }
+    ensures end { TakesAll result (S.left source.new) }
+    ensures fault { result ≡ Err TakeError.Fault → Rose (S.faults source.old) (S.faults source.new) }
+{
+    match read_all(alloc, source, MAX_BYTES) {
+        Ok(bytes) => Ok(bytes),
+        Err(ReadAll::TooLong) => Err(too_long(alloc)),
+        Err(ReadAll::Fault) => Err(TakeError::Fault),
+        Err(ReadAll::NoMemory) => Err(TakeError::NoMemory),
+    }
+}
+
+/// Reads the text of flat code from a source, which is read to its end.
+fn take_flat<S: Source>(alloc: Global, source: &mut S) -> Result<Ir, TakeError>
+    ensures told { IfSome (S.left source.old) (λ bytes. TakesFlat result (λ made. JudgesFlat made bytes)) }
+    ensures end { TakesAll result (S.left source.new) }
+    ensures well { IfOk result IsWellFormed }
+    ensures fault { result ≡ Err TakeError.Fault → Rose (S.faults source.old) (S.faults source.new) }
+{
+    match take_bytes(alloc, source) {
+        Ok(bytes) => read_flat(alloc, bytes.as_slice()),
+        Err(error) => Err(error),
+    }
+}
+
+/// The bundle that some bytes are.
+fn bundle_of(alloc: Global, bytes: &[u8]) -> Result<Bundle, TakeError>
+    ensures told { Takes result (judged bytes.now) }
+    ensures accepted { IfOk result IsAccepted }
+    ensures no_fault { result ≢ Err TakeError.Fault }
+{
+    match read_bundle(alloc, bytes) {
+        Ok(bundle) => Ok(bundle),
+        Err(BundleError::Refused(refusal)) => Err(TakeError::Refused(refusal)),
+        Err(BundleError::NoMemory) => Err(TakeError::NoMemory),
+    }
+}
+
 /// Reads a bundle from a source, which is read to its end.
 fn take_bundle<S: Source>(alloc: Global, source: &mut S) -> Result<Bundle, TakeError>
     ensures told { IfSome (S.left source.old) (λ bytes. Takes result (judged bytes)) }
@@ -82,16 +142,9 @@ fn take_bundle<S: Source>(alloc: Global, source: &mut S) -> Result<Bundle, TakeE
     ensures accepted { IfOk result IsAccepted }
     ensures fault { result ≡ Err TakeError.Fault → Rose (S.faults source.old) (S.faults source.new) }
 {
-    let bytes = match read_all(alloc, source, MAX_BYTES) {
-        Ok(bytes) => bytes,
-        Err(ReadAll::TooLong) => return Err(too_long(alloc)),
-        Err(ReadAll::Fault) => return Err(TakeError::Fault),
-        Err(ReadAll::NoMemory) => return Err(TakeError::NoMemory),
-    };
-    match read_bundle(alloc, bytes.as_slice()) {
-        Ok(bundle) => Ok(bundle),
-        Err(BundleError::Refused(refusal)) => Err(TakeError::Refused(refusal)),
-        Err(BundleError::NoMemory) => Err(TakeError::NoMemory),
+    match take_bytes(alloc, source) {
+        Ok(bytes) => bundle_of(alloc, bytes.as_slice()),
+        Err(error) => Err(error),
     }
 }
 
@@ -103,6 +156,32 @@ fn validate<K: Sink>(alloc: Global, bundle: &Bundle, out: &mut K) -> Status
     ensures cause { result ≡ Status.WriteFault → Rose (K.faults out.old) (K.faults out.new) }
 {
     let Ok(text) = valid_text(alloc, bundle) else {
+        return Status::NoMemory;
+    };
+    finish(out, text.as_str(), Status::Written)
+}
+
+/// Prints the flat code of a bundle's machines.
+fn compile<K: Sink>(alloc: Global, bundle: Bundle, out: &mut K) -> Status
+    ensures told { (desk : Desk) → desk ≡ Desk.Empty → AnswersText (compiled_text bundle) result desk (K.taken out.old) (K.taken out.new) }
+    ensures only { IsOfBundle result }
+    ensures later { K.faults out.old ≤ K.faults out.new }
+    ensures cause { result ≡ Status.WriteFault → Rose (K.faults out.old) (K.faults out.new) }
+{
+    let Ok(text) = compiled_text(alloc, bundle) else {
+        return Status::NoMemory;
+    };
+    finish(out, text.as_str(), Status::Written)
+}
+
+/// Tells how much is in a flat form.
+fn tell_flat<K: Sink>(alloc: Global, ir: &Ir, out: &mut K) -> Status
+    ensures told { (desk : Desk) → desk ≡ Desk.Empty → AnswersText (flat_text ir.now) result desk (K.taken out.old) (K.taken out.new) }
+    ensures only { IsOfBundle result }
+    ensures later { K.faults out.old ≤ K.faults out.new }
+    ensures cause { result ≡ Status.WriteFault → Rose (K.faults out.old) (K.faults out.new) }
+{
+    let Ok(text) = flat_text(alloc, ir) else {
         return Status::NoMemory;
     };
     finish(out, text.as_str(), Status::Written)
@@ -172,7 +251,7 @@ fn simulate<K: Sink>(
 fn run<K: Sink>(alloc: Global, bundle: Bundle, limit: u64, out: &mut K, desk: &mut Desk) -> Status
     requires empty { desk.old ≡ Desk.Empty }
     requires limited { limit ≤ 10000000 }
-    ensures told { Answers (due_bundle (Command.Simulate limit) bundle) result desk.new (K.taken out.old) (K.taken out.new) }
+    ensures told { Answers (due_bundle (BundleCommand.Simulate limit) bundle) result desk.new (K.taken out.old) (K.taken out.new) }
     ensures only { IsOfBundle result }
     ensures sound { HoldsSound desk.new }
     ensures later { K.faults out.old ≤ K.faults out.new }
@@ -189,13 +268,13 @@ fn run<K: Sink>(alloc: Global, bundle: Bundle, limit: u64, out: &mut K, desk: &m
 #[tactic(auto, using(crate::proofs::Due::empty_sound))]
 fn carry_out<K: Sink>(
     alloc: Global,
-    command: Command,
+    command: BundleCommand,
     bundle: Bundle,
     out: &mut K,
     desk: &mut Desk,
 ) -> Status
     requires empty { desk.old ≡ Desk.Empty }
-    requires limited { IsLimited command }
+    requires limited { IsLimited (Command.Bundle command) }
     ensures told { Answers (due_bundle command bundle) result desk.new (K.taken out.old) (K.taken out.new) }
     ensures only { IsOfBundle result }
     ensures sound { HoldsSound desk.new }
@@ -203,18 +282,61 @@ fn carry_out<K: Sink>(
     ensures cause { result ≡ Status.WriteFault → Rose (K.faults out.old) (K.faults out.new) }
 {
     match command {
-        Command::Validate => validate(alloc, &bundle, out),
-        Command::Simulate { limit } => run(alloc, bundle, limit, out, desk),
+        BundleCommand::Validate => validate(alloc, &bundle, out),
+        BundleCommand::Compile => compile(alloc, bundle, out),
+        BundleCommand::Simulate { limit } => run(alloc, bundle, limit, out, desk),
     }
 }
 
-/// Carries out the words: `validate`, or `simulate`, with a limit from 1 to 10,000,000 as `--limit N` or `--limit=N`.
+/// Reads a bundle, and carries out a command with it.
+#[tactic(auto, using(crate::proofs::Due::empty_sound, crate::proofs::Due::bundle_shows, crate::proofs::Due::ends_read))]
+fn with_bundle<S: Source, K: Sink>(
+    alloc: Global,
+    command: BundleCommand,
+    source: &mut S,
+    out: &mut K,
+    desk: &mut Desk,
+) -> Status
+    requires empty { desk.old ≡ Desk.Empty }
+    requires limited { IsLimited (Command.Bundle command) }
+    ensures read_fault { result ≡ Status.ReadFault → Rose (S.faults source.old) (S.faults source.new) }
+    ensures write_fault { result ≡ Status.WriteFault → Rose (K.faults out.old) (K.faults out.new) }
+    ensures no_usage { result ≢ Status.Usage }
+    ensures told { IfSome (S.left source.old) (λ bytes. Answers (due_judged command (judged bytes)) result desk.new (K.taken out.old) (K.taken out.new)) }
+    ensures sound { HoldsSound desk.new }
+    ensures shown { Shows (Some (Command.Bundle command)) result desk.new (K.taken out.old) (K.taken out.new) }
+    ensures read { EndsRead result (S.left source.new) }
+{
+    match take_bundle(alloc, source) {
+        Ok(bundle) => carry_out(alloc, command, bundle, out, desk),
+        Err(error) => tell_untaken(alloc, out, error),
+    }
+}
+
+/// Reads the text of flat code, and tells how much is in it.
+#[tactic(auto, using(crate::proofs::Due::empty_sound, crate::proofs::Due::flat_shows, crate::proofs::Due::ends_read))]
+fn with_flat<S: Source, K: Sink>(alloc: Global, source: &mut S, out: &mut K) -> Status
+    ensures read_fault { result ≡ Status.ReadFault → Rose (S.faults source.old) (S.faults source.new) }
+    ensures write_fault { result ≡ Status.WriteFault → Rose (K.faults out.old) (K.faults out.new) }
+    ensures no_usage { result ≢ Status.Usage }
+    ensures told { IfSome (S.left source.old) (λ bytes. AnswersFlat bytes result Desk.Empty (K.taken out.old) (K.taken out.new)) }
+    ensures shown { Shows (Some Command.Ir) result Desk.Empty (K.taken out.old) (K.taken out.new) }
+    ensures read { EndsRead result (S.left source.new) }
+{
+    match take_flat(alloc, source) {
+        Ok(ir) => tell_flat(alloc, &ir, out),
+        Err(error) => tell_untaken(alloc, out, error),
+    }
+}
+
+/// Carries out the words: `validate`, `compile`, `ir`, or `simulate`, with a limit from 1 to 10,000,000 as `--limit N` or `--limit=N`.
 ///
-/// The bytes of the source are read to their end, and refused, or else the command is carried out with their bundle:
-/// `validate` writes how much is in it, and `simulate` settles its world by the plan's chooser and writes the report. The desk
-/// is empty before, and afterwards it holds the world of `simulate`, unless the answer is Usage, Refused or ReadFault, or
-/// memory ran out before there was one.
-#[tactic(auto, using(crate::proofs::Due::empty_sound, crate::proofs::Due::bundle_shows, crate::proofs::Due::ends_read, crate::proofs::Due::refusal_ends, crate::proofs::Due::refusal_shows, crate::proofs::Due::usage_shows))]
+/// The bytes of the source are read to their end, and refused, or else the command is carried out with what they are. With a
+/// bundle, `validate` writes how much is in it, `compile` the flat code of each of its machines, and `simulate` settles its world by
+/// the plan's chooser and writes the report. With the text of flat code `ir` writes how much is in it. The desk is empty before, and
+/// afterwards it holds the world of `simulate`, unless the answer is Usage, Refused or ReadFault, or memory ran out before
+/// there was one.
+#[tactic(auto, using(crate::proofs::Due::empty_sound, crate::proofs::Due::usage_shows))]
 pub fn tool<S: Source, K: Sink>(
     alloc: Global,
     words: &Items<Text>,
@@ -248,10 +370,8 @@ pub fn tool<S: Source, K: Sink>(
     let Some(command) = command(words) else {
         return tell_usage(out);
     };
-    match take_bundle(alloc, source) {
-        Ok(bundle) => carry_out(alloc, command, bundle, out, desk),
-        Err(TakeError::Refused(refusal)) => refuse(alloc, out, refusal),
-        Err(TakeError::Fault) => Status::ReadFault,
-        Err(TakeError::NoMemory) => Status::NoMemory,
+    match command {
+        Command::Bundle(command) => with_bundle(alloc, command, source, out, desk),
+        Command::Ir => with_flat(alloc, source, out),
     }
 }

@@ -1,7 +1,9 @@
-ghost use Rattle.std.specs.Prelude.{◌≡◌, ◌≤◌, ◌<◌, ◌^◌, ◌*◌, length, option_map, IfSome};
-ghost use Rattle.unum_cli.specs.Words.{number_from, limit_of, limit_in, command, with_limit, without_options, IsLimited};
+//! The words of the command line.
 
-use crate::commands::Command;
+ghost use Rattle.std.specs.Prelude.{◌≡◌, ◌≤◌, ◌<◌, ◌^◌, ◌*◌, length, option_map, IfSome};
+ghost use Rattle.unum_cli.specs.Words.{number_from, limit_of, limit_in, command, simulation, with_limit, without_options, IsLimited};
+
+use crate::commands::{BundleCommand, Command};
 use unum_json::{Items, Text};
 
 /// The limit where none is given.
@@ -59,24 +61,25 @@ fn limit_in(words: &[Text]) -> Option<u64>
     }
 }
 
-/// `validate`, which has no options.
-fn validate(words: &[Text]) -> Option<Command>
-    ensures value { result ≡ without_options Command.Validate words.now }
+/// A command that has no options.
+fn without_options(command: Command, options: &[Text]) -> Option<Command>
+    requires { IsLimited command }
+    ensures value { result ≡ without_options command options.now }
     ensures limited { IfSome result IsLimited }
 {
-    match words {
-        [] => Some(Command::Validate),
+    match options {
+        [] => Some(command),
         _ => None,
     }
 }
 
 /// `simulate` with its limit.
 fn simulate(words: &[Text]) -> Option<Command>
-    ensures value { result ≡ with_limit Command.Simulate words.now }
+    ensures value { result ≡ with_limit simulation words.now }
     ensures limited { IfSome result IsLimited }
 {
     match limit_in(words) {
-        Some(limit) => Some(Command::Simulate { limit }),
+        Some(limit) => Some(Command::Bundle(BundleCommand::Simulate { limit })),
         None => None,
     }
 }
@@ -91,7 +94,11 @@ pub fn command(words: &Items<Text>) -> Option<Command>
         [] => None,
         [word, options @ ..] => {
             if word.as_bytes() == b"validate".as_slice() {
-                validate(options)
+                without_options(Command::Bundle(BundleCommand::Validate), options)
+            } else if word.as_bytes() == b"compile".as_slice() {
+                without_options(Command::Bundle(BundleCommand::Compile), options)
+            } else if word.as_bytes() == b"ir".as_slice() {
+                without_options(Command::Ir, options)
             } else if word.as_bytes() == b"simulate".as_slice() {
                 simulate(options)
             } else {

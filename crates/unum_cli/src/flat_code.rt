@@ -1,0 +1,136 @@
+//! Flat code: what `compile` prints of a bundle, and what `ir` tells of a text.
+
+ghost use Rattle.std.specs.Prelude.{◌≡◌, ◌≢◌, ◌≤◌, ◌++◌, [], Some, Err, flat_map, length, string_bytes, IfOk, OnOk};
+ghost use Rattle.std.specs.List.{AllByRecursion};
+ghost use Rattle.asl_model.specs.Tree.{tree_of};
+ghost use Rattle.asl_model.specs.Valid.{broken};
+ghost use Rattle.serde_json.specs.View.{view};
+ghost use Rattle.unum_json.specs.Written.{text};
+ghost use Rattle.unum_ir.specs.WellFormed.{IsWellFormed};
+ghost use Rattle.continuation_gen.specs.Numbering.{flat_form};
+ghost use Rattle.ir_text.specs.Printed.{ir_value};
+ghost use Rattle.unum_cli.specs.FlatCode.{compiled_line, compiled_text, flat_text, JudgesFlat, JudgesParsed, JudgesOnce};
+ghost use Rattle.unum_cli.specs.Tool.{TakesFlat};
+
+use crate::refusals::push_quoted;
+use crate::session_report::push_number;
+use crate::taking::TakeError;
+use asl_model::{Machine, valid};
+use asl_read::LRule;
+use bundle_read::{Bundle, Refusal, RuleCode, open_bundle};
+use continuation_gen::compile;
+use ir_text::{IrError, print, read as read_ir};
+use serde_json::Value;
+use std::alloc::Global;
+use unum_ir::Ir;
+use unum_json::{JsonError, NoMemory, Text, read};
+
+/// The text of a valid machine's flat code.
+fn code_text(alloc: Global, machine: Machine) -> Result<Text, NoMemory>
+    requires { broken (tree_of machine) ≡ [] }
+    ensures { IfOk result (λ t. t ≡ text (ir_value (flat_form (tree_of machine)))) }
+{
+    valid();
+    let compiled = compile(alloc, machine)?;
+    let text = print(alloc, compiled.ir());
+    drop(compiled);
+    text
+}
+
+/// Adds the line of a machine.
+fn push_machine(
+    alloc: Global,
+    out: &mut String,
+    name: Text,
+    machine: Machine,
+) -> Result<(), NoMemory>
+    requires { broken (tree_of machine) ≡ [] }
+    ensures { OnOk result (string_bytes out.new ≡ string_bytes out.old ++ compiled_line (name, machine)) }
+{
+    let text = code_text(alloc, machine)?;
+    out.push_str("ir")?;
+    push_quoted(alloc, out, &name)?;
+    out.push_str(" ")?;
+    out.push_str(text.as_str())?;
+    out.push_str("\n")?;
+    Ok(())
+}
+
+/// Adds the lines of valid machines.
+fn push_machines(
+    alloc: Global,
+    out: &mut String,
+    machines: Vec<(Text, Machine)>,
+) -> Result<(), NoMemory>
+    requires { AllByRecursion (λ m. broken (tree_of m.1) ≡ []) machines.items }
+    ensures { OnOk result (string_bytes out.new ≡ string_bytes out.old ++ flat_map compiled_line machines.items) }
+{
+    for row in machines {
+        let (name, machine) = row;
+        push_machine(alloc, out, name, machine)?;
+    }
+    Ok(())
+}
+
+/// The text of `compile`: the flat code of each machine of a bundle.
+pub fn compiled_text(alloc: Global, bundle: Bundle) -> Result<Text, NoMemory>
+    ensures { IfOk result (λ t. t ≡ compiled_text bundle) }
+{
+    let opening = open_bundle(bundle);
+    let mut out = String::new(alloc);
+    push_machines(alloc, &mut out, opening.machines.into_vec())?;
+    Ok(Text::from_string(out)?)
+}
+
+/// The line of `ir`: how much is in a flat form.
+#[tactic(auto, unfolding(crate::specs::FlatCode::flat_text))]
+pub fn flat_text(alloc: Global, ir: &Ir) -> Result<Text, NoMemory>
+    ensures { IfOk result (λ t. t ≡ flat_text ir.now) }
+{
+    let mut out = String::new(alloc);
+    push_number(&mut out, "ir ok nodes ", ir.nodes.len() as u64)?;
+    push_number(&mut out, " funcs ", ir.funcs.len() as u64)?;
+    push_number(&mut out, " scopes ", ir.scopes.len() as u64)?;
+    out.push_str("\n")?;
+    Ok(Text::from_string(out)?)
+}
+
+/// The flat form that is printed as that value.
+fn ir_of(alloc: Global, value: &Value) -> Result<Ir, TakeError>
+    ensures value { TakesFlat result (λ made. JudgesParsed made (Some (view value.now))) }
+    ensures well { IfOk result IsWellFormed }
+    ensures no_fault { result ≢ Err TakeError.Fault }
+{
+    match read_ir(alloc, value) {
+        Ok(ir) => Ok(ir),
+        Err(IrError::BadIr { rule, at }) => Err(TakeError::Refused(Refusal::One {
+            rule: RuleCode::Flat(rule),
+            at,
+        })),
+        Err(IrError::NoMemory) => Err(TakeError::NoMemory),
+    }
+}
+
+/// The flat form whose text some bytes are. They are refused by L1 where they are no JSON, and else by the first of I1 to I4 that
+/// they break.
+#[tactic(auto, unfolding(crate::specs::FlatCode::JudgesFlat))]
+pub fn read_flat(alloc: Global, bytes: &[u8]) -> Result<Ir, TakeError>
+    requires { length bytes.now ≤ 4194304 }
+    ensures judged { TakesFlat result (λ made. JudgesFlat made bytes.now) }
+    ensures well { IfOk result IsWellFormed }
+    ensures no_fault { result ≢ Err TakeError.Fault }
+{
+    match read(alloc, bytes) {
+        Ok(value) => ir_of(alloc, &value),
+        Err(JsonError::NotJson) => Err(TakeError::Refused(Refusal::One {
+            rule: RuleCode::Reading(LRule::L1),
+            at: Text::new(alloc),
+        })),
+        Err(JsonError::NoMemory) => Err(TakeError::NoMemory),
+    }
+}
+
+/// Bytes are judged in one way.
+pub fn flat_code_is_judged_once()
+    ensures { JudgesOnce }
+{}
