@@ -33,7 +33,8 @@ compiled_text b = flat_map compiled_line b.machines
 -- the line of `ir`: how much is in a flat form
 unfoldable pub flat_text : Ir → List ℕ
 flat_text ir =
-    codes "ir ok nodes " ++ decimal (length ir.nodes) ++ codes " funcs " ++ decimal (length ir.funcs) ++ codes " scopes " ++ decimal (length ir.scopes) ++ codes "\n"
+    codes "ir ok nodes " ++ decimal (length ir.nodes) ++ codes " funcs " ++ decimal (length ir.funcs) ++ codes " scopes "
+    ++ decimal (length ir.scopes) ++ codes "\n"
 
 -- the first rule of flat code that a value breaks, and where
 pub record BreaksFirst (r : Refusal) (d : Data) : Type 0 where
