@@ -1,0 +1,5 @@
+mod Branches
+mod Paces
+mod Asks
+mod Acted
+mod Given

@@ -1,0 +1,23 @@
+-- In worlds that run flat forms each attempt has what its instance's calls take as given.
+use Rattle.std.specs.Prelude.{ℕ, ◌≡◌, ◌≤◌, List, Some, length, slice_get}
+use Rattle.place_name.specs.declared.limits.TheConstants.{SESSIONS}
+use Rattle.world_model.specs.AnyCode.Code.{flags}
+use Rattle.world_model.specs.AnyCode.Operations.{Invocation}
+use Rattle.world_model.specs.AnyCode.World.{Attempt, Event, code_of, run}
+use Rattle.world_model.specs.World.{Opening}
+use Rattle.world_model.specs.Numbered.{Numbered, first_number}
+use Rattle.continuation_gen.specs.Laws.{ir_codes, AreValid}
+use Rattle.fn_wrapper.specs.Ready.{IsReady}
+
+-- each attempt is ready in its phase
+abbrev pub AllAreReady : Opening → Numbered → Type 0
+AllAreReady o w =
+    (a : ℕ) (t : Attempt) (i : Invocation ℕ) → slice_get w.atts a ≡ Some t → slice_get w.invs t.inv ≡ Some i →
+    IsReady (code_of (ir_codes o) i) i t.phase
+
+-- After every list of events that may happen in turn in a world of at most 1,000 sessions that runs the flat forms of valid machines,
+-- that is so.
+abbrev pub EveryAttemptIsReady : Type 0
+EveryAttemptIsReady =
+    (o : Opening) → AreValid o → length o.sessions ≤ SESSIONS → (events : List Event) (w : Numbered) →
+    run flags (ir_codes o) first_number o events ≡ Some w → AllAreReady o w
