@@ -1,5 +1,5 @@
 -- A draft that breaks nothing is an accepted bundle.
-use Rattle.std.proofs.Common.{◌≡◌, ℕ, ◌+◌, ◌<◌, ◌≤◌, List, [], ◌∷◌, ◌++◌, Bool, true, false, not, nat_lt, length, map, flat_map, refl, sym, ap, subst, ◌∙◌, arith, if◌then◌else◌, codes, decimal}
+use Rattle.std.proofs.Common.{◌≡◌, ℕ, ◌+◌, ◌<◌, ◌≤◌, List, [], ◌∷◌, ◌++◌, Bool, true, false, not, nat_lt, length, map, flat_map, refl, ◌∙◌, arith, codes, decimal}
 use Rattle.std.specs.List.{AllByRecursion}
 use Rattle.std.proofs.lemmas.List.{length-map}
 use Rattle.std.proofs.lemmas.Bool.Decides.{nat_tests}
@@ -7,23 +7,16 @@ use Rattle.asl_model.specs.declared.machine.Machine.{Machine}
 use Rattle.asl_model.specs.Tree.{tree_of}
 use Rattle.asl_model.specs.Valid.{broken}
 use Rattle.unum_world.specs.declared.opening.Session.{Session}
-use Rattle.bundle_read.specs.Accepted.{Accepted, IsAccepted, accepted_of, session_of}
-use Rattle.bundle_read.specs.Bounds.{Text, Place, Functions, Machines, broken_if, in_items, knows, number_of, pair_of, many_if, broken_machine, broken_machines, broken_names, broken_numbers, broken_rules, broken_sizes, lost_session, lost_sessions, calls_others, lost_machine, lost_machines, large_value, large_input, crowd}
+use Rattle.bundle_read.specs.Accepted.{IsAccepted, accepted_of, session_of}
+use Rattle.bundle_read.specs.Bounds.{Text, Functions, Machines, in_items, knows, number_of, pair_of, many_if, broken_machine, broken_machines, broken_names, broken_numbers, broken_rules, broken_sizes, lost_session, lost_sessions, calls_others, lost_machine, lost_machines, large_value, large_input, crowd, wild_function, wild_plan}
 use Rattle.bundle_read.specs.declared.draft.Draft.{Draft}
 use Rattle.bundle_read.specs.declared.draft.DraftSession.{DraftSession}
-use Rattle.bundle_read.specs.declared.refusal.BRule.{BRule}
 use Rattle.bundle_read.specs.declared.refusal.BRule.TheVariants.{B1, B2, B4}
 use Rattle.bundle_read.specs.declared.refusal.BrokenPair.{BrokenPair}
 use Rattle.bundle_read.specs.declared.refusal.Refusal.{Refusal}
 use Rattle.bundle_read.proofs.Halving.{known}
-
-front_none : {A : Type 0} (a b : List A) → a ++ b ≡ [] → a ≡ []
-front_none [] b h = refl
-front_none (x ∷ a) b h = absurd (cc)
-
-rest_none : {A : Type 0} (a b : List A) → a ++ b ≡ [] → b ≡ []
-rest_none [] b h = h
-rest_none (x ∷ a) b h = absurd (cc)
+use Rattle.bundle_read.proofs.PlanRises.{plan_rises}
+use Rattle.bundle_read.proofs.Unbroken.{front_none, rest_none, not_broken}
 
 map_none : {A B : Type 0} (f : A → B) (xs : List A) → map f xs ≡ [] → xs ≡ []
 map_none f [] h = refl
@@ -32,10 +25,6 @@ map_none f (x ∷ xs) h = absurd (cc)
 many_none : (ps : List BrokenPair) → many_if ps ≡ [] → ps ≡ []
 many_none [] h = refl
 many_none (p ∷ ps) h = absurd (cc)
-
-not_broken : (b : Bool) (rule : BRule) (at : Place) → broken_if b rule at ≡ [] → b ≡ false
-not_broken false rule at h = refl
-not_broken true rule at h = absurd (cc)
 
 all_valid : (ms : Machines) → broken_machines ms ≡ [] → AllByRecursion (λ (m : Text × Machine). broken (tree_of m.1) ≡ []) ms
 all_valid [] h = tt
@@ -87,6 +76,9 @@ module _ (d : Draft) (h : broken_rules d ≡ []) where
   no_sizes : sizes ≡ []
   no_sizes = front_none sizes numbers (rest_none names (sizes ++ numbers) (rest_none (broken_machines d.machines) (names ++ (sizes ++ numbers)) h))
 
+  no_numbers : numbers ≡ []
+  no_numbers = rest_none sizes numbers (rest_none names (sizes ++ numbers) (rest_none (broken_machines d.machines) (names ++ (sizes ++ numbers)) h))
+
   no_crowd : crowd d.sessions ≡ []
   no_crowd = rest_none (in_items large_input 0 d.sessions) (crowd d.sessions) (rest_none (flat_map large_value d.functions) (in_items large_input 0 d.sessions ++ crowd d.sessions) no_sizes)
 
@@ -98,4 +90,5 @@ module _ (d : Draft) (h : broken_rules d ≡ []) where
         called = all_called d.functions d.machines (rest_none (lost_sessions d.machines d.sessions) (lost_machines d.functions d.machines) no_names);
         few = rw length-map few;
         placed = all_placed d.machines 0 d.sessions (front_none (lost_sessions d.machines d.sessions) (lost_machines d.functions d.machines) no_names);
+        rising = plan_rises d.plan (rest_none (flat_map wild_function d.functions) (wild_plan d.plan) no_numbers);
       }

@@ -1,5 +1,5 @@
 -- What one comparison says of a name's number among names that rise.
-use Rattle.std.proofs.Common.{◌≡◌, ◌+◌, ◌<◌, List, [], ◌∷◌, ℕ, zero, suc, Bool, true, false, Less, Equal, Greater, Ordering, nat_cmp, refl, sym, ap, ◌∙◌, length, drop, get_or, arith, add-one, Some, None, not, cond, nat_lt, is_some, if◌then◌else◌}
+use Rattle.std.proofs.Common.{◌≡◌, ◌+◌, ◌<◌, List, [], ◌∷◌, ℕ, zero, suc, Bool, true, false, Less, Equal, Greater, Ordering, nat_cmp, refl, sym, ap, ◌∙◌, length, drop, get_or, arith, add-one, Some, not, cond, nat_lt, is_some, if◌then◌else◌}
 use Rattle.std.proofs.lemmas.Bool.{lt-ltb}
 use Rattle.std.proofs.lemmas.Bool.Decides.{nat_tests}
 use Rattle.std.proofs.lemmas.Map.Lookups.{exact_bytes}
@@ -9,7 +9,7 @@ use Rattle.std.specs.Cmp.Lexicographic.{slice_cmp}
 use Rattle.std.specs.List.{AllByRecursion}
 use Rattle.std.specs.List.Sorted.{IsStrictlySortedBy}
 use Rattle.std.specs.Map.{keys_of}
-use Rattle.std.specs.Ordering.{match_ordering, ordering_reverse, is_eq}
+use Rattle.std.specs.Ordering.{ordering_reverse, is_eq}
 use Rattle.std.specs.Str.{bytes_eq}
 use Rattle.unum_json.specs.Keys.{IsRising, find_key}
 use Rattle.bundle_read.specs.Bounds.{knows, number_of}

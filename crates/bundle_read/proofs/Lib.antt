@@ -1,6 +1,10 @@
 pub mod Acceptance
+pub mod Compiling
+pub mod Fitting
 pub mod Halving
+pub mod PlanRises
 pub mod Somewhere
 pub mod Steps
+pub mod Unbroken
 pub mod Values
 pub mod Walk

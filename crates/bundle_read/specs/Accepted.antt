@@ -1,11 +1,12 @@
 -- Accepted bundles: what one is made of, and how it comes of what its text says.
-use Rattle.std.specs.Prelude.{◌≡◌, ℕ, ◌<◌, ◌≤◌, IsTrue, IsFalse, List, [], ◌∷◌, length, map}
+use Rattle.std.specs.Prelude.{◌≡◌, ℕ, ◌<◌, ◌≤◌, IsFalse, List, [], ◌∷◌, length, map}
 use Rattle.std.specs.List.{AllByRecursion}
 use Rattle.asl_model.specs.declared.machine.Machine.{Machine}
 use Rattle.asl_model.specs.Tree.{tree_of}
 use Rattle.asl_model.specs.Valid.{broken}
-use Rattle.unum_world.specs.declared.planning.Mishap.{Mishap}
-use Rattle.unum_world.specs.declared.planning.Plan.{Plan}
+use Rattle.world_plans.specs.declared.planning.Mishap.{Mishap}
+use Rattle.world_plans.specs.declared.planning.Plan.{Plan}
+use Rattle.invoke_queue.specs.Plans.{IsRisingPlan}
 use Rattle.unum_world.specs.declared.opening.Session.{Session}
 use Rattle.unum_world.specs.declared.opening.Opening.{Opening}
 use Rattle.bundle_read.specs.declared.draft.Draft.{Draft}
@@ -20,12 +21,14 @@ pub record Accepted : Type 0 where
   pub sessions : List Session
   pub plan : Plan
 
--- Every machine is valid, each Task calls one of the functions, there are at most 1,000 sessions, and each session's machine is there.
+-- Every machine is valid, each Task calls one of the functions, there are at most 1,000 sessions, each session's machine is there,
+-- and the plan's lists rise.
 pub record IsAccepted (b : Accepted) : Type 0 where
   pub valid : AllByRecursion (λ (m : Text × Machine). broken (tree_of m.1) ≡ []) b.machines
   pub called : AllByRecursion (λ (m : Text × Machine). IsFalse (calls_others b.functions (tree_of m.1))) b.machines
   pub few : length b.sessions ≤ 1000
   pub placed : AllByRecursion (λ (s : Session). s.machine < length b.machines) b.sessions
+  pub rising : IsRisingPlan b.plan
 
 abbrev pub session_of : Machines → DraftSession → Session
 session_of machines s = record { machine = number_of machines s.machine; input = s.input }

@@ -2,7 +2,7 @@
 --
 -- L0 comes before all else, then L1, then the rules of reading in the order of reading. What is read is tried for validity,
 -- machine by machine, and then for the rules B1 to B5.
-use Rattle.std.specs.Prelude.{◌≡◌, ℕ, nat_lt, List, [], ◌∷◌, ◌++◌, length, map, Option, Some, None, Result, Ok, Err, if◌then◌else◌}
+use Rattle.std.specs.Prelude.{◌≡◌, ℕ, nat_lt, List, [], ◌∷◌, length, map, Option, Some, None, Result, Ok, Err, if◌then◌else◌}
 use Rattle.serde_json.specs.Data.{Data}
 use Rattle.unum_json.specs.Reading.{reading}
 use Rattle.asl_read.specs.Objects.{Broken}

@@ -10,7 +10,7 @@ use crate::draft::DraftPlan;
 use crate::refusal::{BRule, BundleError};
 use std::alloc::Global;
 use unum_json::{Items, NoMemory};
-use unum_world::{Mishap, Plan};
+use world_plans::{Mishap, Plan};
 
 /// Attempts are below this number.
 const ATTEMPTS: u32 = 10_000_000;
@@ -122,5 +122,11 @@ pub fn plan_of(alloc: Global, plan: DraftPlan) -> Result<Plan, NoMemory>
         twins,
     } = plan;
     let script = mishaps_of(alloc, script.as_slice())?;
-    Ok(Plan::new(seed, crash, repeat, script, twins))
+    Ok(Plan {
+        seed,
+        crash,
+        repeat,
+        script,
+        twins,
+    })
 }

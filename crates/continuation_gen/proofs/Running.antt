@@ -17,7 +17,7 @@ use Rattle.continuation_gen.proofs.Sites.{same_size}
 use Rattle.continuation_gen.proofs.Maps.{ir_maps}
 
 -- a session that is not there has no function
-abbrev size_at : Option Session → ℕ
+abbrev pub size_at : Option Session → ℕ
 size_at None = 0
 size_at (Some x) = ir_size x.machine
 
@@ -43,10 +43,10 @@ begins_at (Some y) x e =
     let k = same_size y.machine in
     (omega (arith, l, k), h ∙ ap (λ (v : Session). first v.machine) (same_Some y x e))
 
-abbrev sizes : Opening → ℕ → ℕ
+abbrev pub sizes : Opening → ℕ → ℕ
 sizes o s = size_at (slice_get o.sessions s)
 
-stands : (o : Opening) → AreValid o → StandsFor o (ir_codes o) (flat_sites o) (sizes o)
+pub stands : (o : Opening) → AreValid o → StandsFor o (ir_codes o) (flat_sites o) (sizes o)
 stands o h = record { maps = λ s. maps_at (slice_get o.sessions s) (h s); begins = λ s x q. begins_at (slice_get o.sessions s) x q }
 
 pub every_ir_run_is_sound : EveryIrRunIsSound

@@ -1,16 +1,26 @@
-//! Runs worlds of chains through lists of events, and prints what each event comes to: whether it was made, and the totals
-//! after it. What it prints was made by an independent interpreter of the same rules.
+//! Runs worlds through lists of events. A line of the input is one of these:
 //!
-//! A line `bundle JSON` gives a bundle, and each line `events D0 S0 ..` a list, which begins in a new world of the last
-//! bundle. An event is a letter (D for Deliver, C for Crash, S for Step, A for Answer, G for GiveUp) and a number.
+//! - `bundle JSON` gives a bundle, and `limit N` how many events the worlds that follow may have: 1,000 where no line says it;
+//! - `case NAME` names what follows, and is printed;
+//! - `events LIST` makes each event of a list in a new world of the last bundle, and prints what each comes to with the totals after
+//!   it, and at the end the report;
+//! - `run LIST` makes the events until one is refused, and prints the length of the history, the report, the number of
+//!   invocations, and the refusal.
+//!
+//! In a list there are blanks between the events, each a letter (D for Deliver, C for Crash, S for Step, A for Answer, G for
+//! GiveUp) and a number, and where it is to be made several times `*` and how often.
 #![tactic(auto)]
 
 use std::alloc::Global;
 use std::io;
 use std::io::Print;
 use unum_cli::session_report::report;
-use unum_cli::{read_bundle, runnable};
-use unum_world::{ApplyError, Event, World};
+use unum_cli::{open_bundle, read_bundle};
+use unum_world::{ApplyError, World};
+use world_types::Event;
+
+/// How many events a world may have where no line says it.
+const LIMIT: u64 = 1_000;
 
 /// The event of a word, as `D0`.
 fn event(word: &str) -> Option<Event> {
@@ -26,13 +36,21 @@ fn event(word: &str) -> Option<Event> {
     }
 }
 
-/// What became of an event.
-fn outcome(made: Result<(), ApplyError>) -> &'static str {
+/// The name of an event, and how often it is to be made.
+fn times(word: &str) -> Option<(&str, u32)> {
+    match word.split_once('*') {
+        Some((name, times)) => Some((name, times.parse().ok()?)),
+        None => Some((word, 1)),
+    }
+}
+
+/// Prints what became of an event.
+fn print_outcome(rt: &impl Print, name: &str, made: Result<(), ApplyError>) -> io::Result<()> {
     match made {
-        Ok(()) => "made",
-        Err(ApplyError::NotEnabled { event: _ }) => "NotEnabled",
-        Err(ApplyError::Spent { len: _ }) => "Spent",
-        Err(ApplyError::NoMemory) => "NoMemory",
+        Ok(()) => println!(rt; "{name} made"),
+        Err(ApplyError::NotEnabled { event: _ }) => println!(rt; "{name} NotEnabled"),
+        Err(ApplyError::Spent { len }) => println!(rt; "{name} Spent {len}"),
+        Err(ApplyError::NoMemory) => println!(rt; "{name} NoMemory"),
     }
 }
 
@@ -49,43 +67,138 @@ fn print_report(rt: &impl Print, alloc: Global, world: &World, is_whole: bool) -
     Ok(())
 }
 
-/// Makes each event of a list.
-fn run(rt: &impl Print, alloc: Global, world: &mut World, list: &str) -> io::Result<()> {
-    for word in list.split(' ') {
-        let Some(event) = event(word) else {
-            return println!(rt; "no event");
-        };
-        println!(rt; "{word} {}", outcome(world.apply(alloc, event)))?;
+/// Makes an event once or several times, and prints what each time comes to.
+fn tell_event(rt: &impl Print, alloc: Global, world: &mut World, word: &str) -> io::Result<()> {
+    let Some((name, times)) = times(word) else {
+        return println!(rt; "no event");
+    };
+    let Some(event) = event(name) else {
+        return println!(rt; "no event");
+    };
+    for _ in 0..times {
+        print_outcome(rt, name, world.apply(alloc, event))?;
         print_report(rt, alloc, world, false)?;
+    }
+    Ok(())
+}
+
+/// Makes each event of a list.
+fn tell_events(rt: &impl Print, alloc: Global, world: &mut World, list: &str) -> io::Result<()> {
+    for word in list.split_whitespace() {
+        tell_event(rt, alloc, world, word)?;
     }
     print_report(rt, alloc, world, true)
 }
 
-/// Runs a list of events in a new world of a bundle.
-fn run_list(rt: &impl Print, alloc: Global, bundle: &str, list: &str) -> io::Result<()> {
+/// Makes an event so often, until it is refused.
+fn make(alloc: Global, world: &mut World, event: Event, times: u32) -> Result<(), ApplyError> {
+    for _ in 0..times {
+        world.apply(alloc, event)?;
+    }
+    Ok(())
+}
+
+/// Why a list of events was not made to its end.
+#[derive(Clone, Copy)]
+enum Stopped<'l> {
+    /// A word is no event.
+    NoEvent,
+    /// The event of that name was refused.
+    Refused(&'l str, ApplyError),
+}
+
+/// Makes the events of a list until one is refused.
+fn make_all<'l>(alloc: Global, world: &mut World, list: &'l str) -> Result<(), Stopped<'l>> {
+    for word in list.split_whitespace() {
+        let Some((name, times)) = times(word) else {
+            return Err(Stopped::NoEvent);
+        };
+        let Some(event) = event(name) else {
+            return Err(Stopped::NoEvent);
+        };
+        if let Err(refusal) = make(alloc, world, event, times) {
+            return Err(Stopped::Refused(name, refusal));
+        }
+    }
+    Ok(())
+}
+
+/// Makes the events of a list until one is refused, and prints what the world is then.
+fn run(rt: &impl Print, alloc: Global, world: &mut World, list: &str) -> io::Result<()> {
+    let made = make_all(alloc, world, list);
+    println!(rt; "history {}", world.length())?;
+    print_report(rt, alloc, world, true)?;
+    println!(rt; "invocations {}", world.totals().invocations)?;
+    match made {
+        Ok(()) => Ok(()),
+        Err(Stopped::NoEvent) => println!(rt; "no event"),
+        Err(Stopped::Refused(name, refusal)) => {
+            print!(rt; "event {} ", world.length())?;
+            print_outcome(rt, name, Err(refusal))
+        }
+    }
+}
+
+/// A new world of a bundle, or what is to be printed.
+fn open(alloc: Global, bundle: &str, limit: u64) -> Result<World, &'static str> {
+    if limit > 10_000_000 {
+        return Err("no limit");
+    }
     let Ok(bundle) = read_bundle(alloc, bundle.as_bytes()) else {
-        return println!(rt; "refused");
+        return Err("refused");
     };
-    let Ok(opening) = runnable(alloc, bundle) else {
-        return println!(rt; "refused");
+    let Ok(opening) = open_bundle(alloc, bundle) else {
+        return Err("NoMemory");
     };
-    let Ok(mut world) = World::open(alloc, opening, 1_000) else {
-        return println!(rt; "NoMemory");
-    };
-    run(rt, alloc, &mut world, list)
+    World::open(alloc, opening, limit).map_err(|_| "NoMemory")
+}
+
+/// What is done with a list.
+#[derive(Clone, Copy)]
+enum Telling {
+    /// Each event is told.
+    Events,
+    /// The end is told.
+    End,
+}
+
+/// Runs a list of events in a new world of a bundle.
+fn run_list(
+    rt: &impl Print,
+    alloc: Global,
+    bundle: &str,
+    limit: u64,
+    telling: Telling,
+    list: &str,
+) -> io::Result<()> {
+    match open(alloc, bundle, limit) {
+        Ok(mut world) => match telling {
+            Telling::Events => tell_events(rt, alloc, &mut world, list),
+            Telling::End => run(rt, alloc, &mut world, list),
+        },
+        Err(told) => println!(rt; "{told}"),
+    }
 }
 
 fn main(rt: HostRuntime) -> io::Result<()> {
     let alloc = rt.alloc();
     let mut bundle = String::new(alloc);
+    let mut limit = LIMIT;
     for line in rt.lines(alloc) {
         let line = line?;
-        if let Some(text) = line.as_str().strip_prefix("bundle ") {
+        let line = line.as_str();
+        if let Some(text) = line.strip_prefix("bundle ") {
             bundle.clear();
             bundle.push_str(text)?;
-        } else if let Some(list) = line.as_str().strip_prefix("events ") {
-            println!(rt; "{}", line.as_str())?;
-            run_list(&rt, alloc, bundle.as_str(), list)?;
+        } else if let Some(number) = line.strip_prefix("limit ") {
+            limit = number.parse().unwrap_or(LIMIT);
+        } else if let Some(list) = line.strip_prefix("events ") {
+            println!(rt; "{line}")?;
+            run_list(&rt, alloc, bundle.as_str(), limit, Telling::Events, list)?;
+        } else if let Some(list) = line.strip_prefix("run ") {
+            run_list(&rt, alloc, bundle.as_str(), limit, Telling::End, list)?;
+        } else {
+            println!(rt; "{line}")?;
         }
     }
     Ok(())

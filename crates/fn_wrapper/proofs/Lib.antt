@@ -2,4 +2,4 @@ mod Branches
 mod Paces
 mod Asks
 mod Acted
-mod Given
+pub mod Given

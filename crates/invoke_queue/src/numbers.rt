@@ -100,6 +100,13 @@ impl Numbers {
         self.len as usize
     }
 
+    /// How many numbers the set has room for: each below it can be put in.
+    pub fn room(&self) -> usize
+        ensures { result ≡ self.now.room }
+    {
+        self.flags.len()
+    }
+
     /// Whether the number is in the set.
     pub fn contains(&self, number: u32) -> bool
         ensures { IsTrue result ↔ In number self.now.numbers }

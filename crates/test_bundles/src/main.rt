@@ -1,5 +1,4 @@
-//! Asks `validate`, `compile` and `ir` about texts, good and broken at every rule and field, and prints the status and what is written. What it has to
-//! print was made by an independent interpreter of the same rules.
+//! Asks `validate`, `compile` and `ir` about texts, good and broken at every rule and field, and prints the status and what is written.
 //!
 //! A line `command WORD` says which command is asked from there on. A line `base JSON` gives a text. A line `edited OLD => NEW`, or
 //! with several edits `edited OLD => NEW && OLD => NEW`, asks about that text with each OLD, which stands there once, in another

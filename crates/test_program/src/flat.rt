@@ -3,7 +3,7 @@
 use crate::fault::Fault;
 use crate::given::{number, parted};
 use crate::machine::block;
-use crate::stops::{Had, json, push_json, push_outcomes, push_over, push_stop, read_had};
+use crate::parts::{Had, json, push_json, push_outcomes, push_over, push_stop, read_had};
 use asl_model::{Machine, valid};
 use asl_valid::check;
 use continuation_gen::{Compiled, compile};

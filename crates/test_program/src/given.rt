@@ -9,8 +9,6 @@ use std::fmt::Debug;
 pub struct Given {
     bundle: String,
     bytes: Vec<u8>,
-    /// The inputs of the sessions of its worlds, where these are not those of the bundle.
-    sessions: Option<(i64, i64)>,
 }
 
 /// The number in a word.
@@ -94,16 +92,11 @@ impl Given {
         Given {
             bundle: String::new(alloc),
             bytes: Vec::new(alloc),
-            sessions: None,
         }
     }
 
     pub fn bytes(&self) -> &[u8] {
         self.bytes.as_slice()
-    }
-
-    pub fn sessions(&self) -> Option<(i64, i64)> {
-        self.sessions
     }
 
     /// Takes over a bundle.
@@ -112,7 +105,6 @@ impl Given {
         self.bundle.push_str(text)?;
         self.bytes.clear();
         push_text(&mut self.bytes, text)?;
-        self.sessions = None;
         Ok(true)
     }
 
@@ -140,13 +132,6 @@ impl Given {
     pub fn blank(&mut self, rest: &str) -> Result<bool, Fault> {
         self.bytes.clear();
         push_times(&mut self.bytes, b' ', number(rest)?)?;
-        Ok(true)
-    }
-
-    /// Two sessions with these inputs.
-    pub fn set_sessions(&mut self, rest: &str) -> Result<bool, Fault> {
-        let (first, second) = parted(rest, " ")?;
-        self.sessions = Some((whole(first)?, whole(second)?));
         Ok(true)
     }
 }

@@ -1,13 +1,11 @@
-//! Runs cases of the program: reads them from standard input, one a line, and prints each with what it comes to. What is
-//! expected was made by an independent interpreter of the same rules.
+//! Runs cases of the program: reads them from standard input, one a line, and prints each with what it comes to.
 //!
 //! The bytes that cases are given stand in lines of their own:
 //!
 //! - `bundle TEXT`: that text, in which `\xHH` stands for a byte;
 //! - `change OLD | NEW`: the last bundle with NEW in place of the first OLD;
 //! - `chain N`: a bundle with a chain of N Tasks;
-//! - `blank N`: N blanks;
-//! - `sessions N M`: the worlds of the last bundle have two sessions, with these inputs.
+//! - `blank N`: N blanks.
 //!
 //! The cases:
 //!
@@ -15,11 +13,10 @@
 //! - `prefixes WORDS`: the same for each proper prefix of the bytes;
 //! - `world LIMIT WORDS` and `settled LIMIT WORDS`: a world that has just begun, or has settled, and what `worlds` does in it;
 //! - `plan step N | twin N | pick LEN OF`: what the plan of the bundle says;
-//! - `begin STATE RAW`, `finish STATE RAW USED ANSWER` and `stop STATE HOP RAW USED ANSWER`: what a state of the machine in
-//!   `machine` does first, how it goes on after an answer, and where its scope stops next (STATE is `-` for the Enter);
-//! - `join ANSWER | ANSWER ..`: what the branches of a fan come to;
-//! - `flat ..` and `joined ..`: the same as `stop` and `join`, by the machine's flat code;
-//! - `walk NODE HOP VALUE`: where that code stops from a node on; `code RAW`: what its functions are, and a fan's first inputs.
+//! - `flat STATE HOP RAW USED ANSWER`: where the flat code of the machine in `machine` stops after that answer (STATE is `-` for the
+//!   Enter); `walk NODE HOP VALUE`: where it stops from a node on;
+//! - `joined ANSWER | ANSWER ..`: what the branches of its fan come to;
+//! - `code RAW`: what its functions are, and the fan's first inputs.
 //!
 //! An ANSWER is `ok VALUE` or `fail ERROR CAUSE`. Lines that begin with `#` are printed as they are.
 #![tactic(auto)]
@@ -29,8 +26,8 @@ mod fault;
 mod flat;
 mod given;
 mod machine;
+mod parts;
 mod plans;
-mod stops;
 mod worlds;
 
 use calls::{prefixes, tool_case};
@@ -40,7 +37,6 @@ use given::{Given, split_word};
 use plans::plan;
 use std::alloc::Global;
 use std::io;
-use stops::{join, visit};
 use worlds::{settled, world};
 
 /// Sets what cases are given, where the line does that.
@@ -51,7 +47,6 @@ fn sets(alloc: Global, given: &mut Given, line: &str) -> Result<bool, Fault> {
         "change" => given.change(rest),
         "chain" => given.chain(alloc, rest),
         "blank" => given.blank(rest),
-        "sessions" => given.set_sessions(rest),
         _ => Ok(false),
     }
 }
@@ -65,8 +60,6 @@ fn run(alloc: Global, given: &Given, out: &mut String, line: &str) -> Result<(),
         "world" => world(alloc, out, given, rest),
         "settled" => settled(alloc, out, given, rest),
         "plan" => plan(alloc, out, given.bytes(), rest),
-        "join" => join(alloc, out, rest),
-        "begin" | "finish" | "stop" => visit(alloc, out, word, rest),
         "flat" | "walk" | "code" | "joined" => code(alloc, out, word, rest),
         "#" => Ok(()),
         _ => Err(Fault::NotRead),

@@ -2,69 +2,30 @@
 //!
 //! The words of a case are events, each a letter (D, C, S, A or G for Deliver, Crash, Step, Answer and GiveUp) and a number, and
 //! where there are several at once `*` and how many. `A1:echo:5` is the answer that an echo gives to the attempt 1 for the
-//! input 5, and `next` the event that the chooser takes next. `enabled?D0` asks whether an event is enabled, and `session?2` and
-//! `entry?2` whether there is one of that number, and `event?2` which event it is. Of an event that is refused the refusal is printed, and at the
-//! end the numbers of events and checkpoints, and the report.
-ghost use Rattle.std.specs.Prelude.{◌≤◌, ◌<◌, IfOk, length};
-ghost use Rattle.unum_world.specs.Seen.{Fits};
+//! input 5, and `next` the event that the chooser takes next. `enabled?D0` asks whether an event is enabled, `session?2` and
+//! `entry?2` whether there is one of that number, `event?2` which event it is, and `live?0` how many objects of a session are live. Of an
+//! event that is refused the refusal is printed, and at the end the numbers of events and checkpoints, and the report.
+ghost use Rattle.std.specs.Prelude.{◌≤◌, IfOk};
+ghost use Rattle.unum_world.specs.Openings.{Fits};
 
 use crate::fault::Fault;
 use crate::given::{Given, number, parted, split_word, tell, whole};
 use fn_table::{BuiltIns, FnKind, Functions};
 use std::alloc::Global;
 use unum_cli::session_report::report;
-use unum_cli::{read_bundle, runnable};
-use unum_json::{Items, Json};
-use unum_world::{ApplyError, Event, Opening, Planned, Session, World};
-
-/// The opening with two sessions of its first machine, with these inputs.
-fn with_sessions(alloc: Global, opening: Opening, inputs: (i64, i64)) -> Result<Opening, Fault>
-    requires { Fits opening 10000000 }
-    ensures { IfOk result (λ o. Fits o 10000000) }
-{
-    let mut sessions = Items::new(alloc);
-    sessions.push(Session {
-        machine: 0,
-        input: Json::whole(inputs.0),
-    })?;
-    sessions.push(Session {
-        machine: 0,
-        input: Json::whole(inputs.1),
-    })?;
-    if opening.machines.is_empty() {
-        drop(opening);
-        drop(sessions);
-        return Err(Fault::NotRead);
-    }
-    let Opening {
-        machines,
-        table,
-        sessions: others,
-        plan,
-    } = opening;
-    drop(others);
-    Ok(Opening {
-        machines,
-        table,
-        sessions,
-        plan,
-    })
-}
+use unum_cli::{open_bundle, read_bundle};
+use unum_json::Json;
+use unum_world::{ApplyError, Opening, Planned, World};
+use world_types::Event;
 
 /// How the worlds of a case begin.
 fn opening(alloc: Global, given: &Given) -> Result<Opening, Fault>
-    ensures { IfOk result (λ o. Fits o 10000000) }
+    ensures { IfOk result Fits }
 {
     let Ok(bundle) = read_bundle(alloc, given.bytes()) else {
         return Err(Fault::NotRead);
     };
-    let Ok(opening) = runnable(alloc, bundle) else {
-        return Err(Fault::NotRead);
-    };
-    match given.sessions() {
-        None => Ok(opening),
-        Some(inputs) => with_sessions(alloc, opening, inputs),
-    }
+    Ok(open_bundle(alloc, bundle)?)
 }
 
 /// The event of a word, as `D0`.
@@ -136,7 +97,7 @@ fn give(alloc: Global, out: &mut String, world: &mut World, word: &str) -> Resul
 
 /// Makes the event that the chooser takes next.
 fn make_next(alloc: Global, out: &mut String, world: &mut World) -> Result<(), Fault> {
-    match world.choose(alloc)? {
+    match world.choose() {
         None => out.push_str("next: none\n")?,
         Some(event) => {
             tell(out, "next", &event)?;
@@ -146,13 +107,15 @@ fn make_next(alloc: Global, out: &mut String, world: &mut World) -> Result<(), F
     Ok(())
 }
 
-/// Whether there is a session, or a checkpoint of that number, which event it is, or whether an event is enabled.
+/// Whether there is a session, or a checkpoint of that number, which event it is, how many objects are live, or whether an
+/// event is enabled.
 fn ask(out: &mut String, world: &World, word: &str) -> Result<(), Fault> {
     let (asked, at) = parted(word, "?")?;
     let is = match asked {
         "session" => world.session(number(at)?).is_some(),
         "entry" => world.entry(u64::from(number(at)?)).is_some(),
         "event" => return tell(out, word, &world.event(u64::from(number(at)?))),
+        "live" => return tell(out, word, &world.hub().store.live_of(number(at)?)),
         _ => world.enabled(event(at)?),
     };
     tell(out, word, &is)

@@ -6,8 +6,8 @@ use Rattle.unum_json.specs.declared.value.Json.{Json, the_lemmas}
 use Rattle.unum_json.specs.declared.value.Json as json
 use Rattle.unum_json.specs.Tree.{on_values}
 use Rattle.unum_json.specs.Written.{text, quoted, field_text, escaped_byte}
-use Rattle.unum_world.specs.Sessions.{all_over, standing, count_from, crashes_in}
-use Rattle.unum_world.specs.Worlds.{put, root_invs, root_states, root_args, effect, enabled, run_from}
+use Rattle.world_model.specs.AnyCode.World.{objects_with, root_invs, root_states, start_objects, effect, enabled, run_from}
+use Rattle.world_plans.specs.Standings.{all_over, standing, count_from, crashes_in}
 use Rattle.unum_cli.specs.Words.{number_from, limit_of, command}
 use Rattle.unum_cli.specs.Report.{lines, outcome_text, sessions_text, counts_text, tries_text, totals_text, report}
 use Rattle.unum_cli.specs.Shown.{LimitBounds, LimitDigits, FailureText, Lines, TotalsLine, WholeReport}
@@ -39,5 +39,5 @@ unfolding digits sessions_text counts_text tries_text totals_text
 totals_line = refl
 
 pub whole_report : WholeReport
-unfolding digits sessions_text counts_text tries_text totals_text lines report standing all_over count_from crashes_in put root_invs root_states root_args effect enabled run_from
+unfolding digits sessions_text counts_text tries_text totals_text lines report standing all_over count_from crashes_in objects_with root_invs root_states start_objects effect enabled run_from
 whole_report machines table plan a b = refl

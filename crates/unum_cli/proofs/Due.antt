@@ -1,17 +1,19 @@
 -- What is due for the words and the bytes, and what an answer to it shows.
 use Rattle.std.proofs.Common.{◌≡◌, ℕ, ◌<◌, ◌⊎◌, inl, inr, List, [], length, Option, Some, None, Err, Ok, Result, IfSome, refl, sym, ap, subst, ◌∙◌, length-append, arith}
 use Rattle.std.specs.Io.KnownBytes.{Keeps, Appends, IsAtEnd}
+use Rattle.unum_io.specs.Told.{TookFront}
 use Rattle.std.proofs.lemmas.Bool.{lt-ltb}
 use Rattle.unum_io.specs.Told.{GaveMore}
 use Rattle.asl_read.specs.declared.fault.LRule.TheVariants as lrule
 use Rattle.unum_ir.specs.declared.ir.Ir.{Ir}
 use Rattle.unum_ir.specs.WellFormed.{IsWellFormed}
-use Rattle.bundle_read.specs.Accepted.{Accepted, IsAccepted}
+use Rattle.bundle_read.specs.Accepted.{Accepted, IsAccepted, opening_of}
 use Rattle.bundle_read.specs.Judged.{judged}
 use Rattle.bundle_read.specs.declared.refusal.RuleCode.TheVariants as code
 use Rattle.bundle_read.specs.declared.refusal.Refusal.{Refusal}
 use Rattle.bundle_read.specs.declared.refusal.Refusal.TheVariants.{One, Many}
 use Rattle.unum_world.specs.declared.opening.Opening.{Opening}
+use Rattle.unum_world.specs.Pasts.{Past, IsDrained}
 use Rattle.unum_cli.specs.declared.answer.Desk.{Desk}
 use Rattle.unum_cli.specs.declared.answer.Desk.TheVariants.{Empty, Open}
 use Rattle.unum_cli.specs.declared.answer.Status.{Status}
@@ -24,10 +26,10 @@ use Rattle.unum_cli.specs.declared.taking.TakeError.{TakeError}
 use Rattle.unum_cli.specs.declared.taking.TakeError.TheVariants as take
 use Rattle.unum_cli.specs.FlatCode.{compiled_text, flat_text, JudgesFlat, JudgesBytes}
 use Rattle.unum_cli.specs.Refused.{refusal_text}
-use Rattle.unum_cli.specs.Runnable.{runnable}
+use Rattle.unum_cli.specs.Report.{report}
 use Rattle.unum_cli.specs.Valid.{valid_text}
 use Rattle.unum_cli.specs.Words.{simulation}
-use Rattle.unum_cli.specs.Tool.{due_opening, due_bundle, Answers, AnswersRefusal, AnswersText, AnswersUntaken, AnswersUsage, AnswersWorld, EndsAfter, EndsRead, HoldsSound, IsOfBundle, Shows, Takes, TakesAll, TakesBytes, TakesFlat, AnswersFlat, AnswersJudged, due_judged}
+use Rattle.unum_cli.specs.Tool.{due_bundle, Answers, AnswersRefusal, AnswersText, AnswersUntaken, AnswersUsage, AnswersWorld, EndsAfter, EndsRead, HoldsSound, Shows, Takes, TakesAll, TakesBytes, TakesFlat, AnswersFlat, AnswersJudged, IsSpent, IsWorldOf, Wrote, due_judged}
 
 pub each_some : {T : Type 0} (o : Option T) (P : T → Type 0) → ((x : T) → o ≡ Some x → P x) → IfSome o P
 each_some None P h = tt
@@ -113,14 +115,10 @@ world_shows o limit NoMemory desk old new h = h.1
 world_shows o limit (Refused r) desk old new h = absurd h
 world_shows o limit Usage desk old new h = absurd h
 
-opening_shows : (limit : ℕ) (made : Result Opening Refusal) (status : Status) (desk : Desk) (old new : Option (List ℕ)) → Answers (due_opening limit made) status desk old new → Shows (Some (simulation limit)) status desk old new
-opening_shows limit (Ok o) status desk old new h = world_shows o limit status desk old new h
-opening_shows limit (Err r) status desk old new h = refusal_shows (Some (simulation limit)) r status desk old new h
-
 pub bundle_shows : (c : BundleCommand) (b : Accepted) → IsAccepted b → (status : Status) (desk : Desk) (old new : Option (List ℕ)) → Answers (due_bundle c b) status desk old new → Shows (Some (command.Bundle c)) status desk old new
 bundle_shows Validate b is status desk old new h = told_shows (Some (command.Bundle Validate)) (valid_text b) (λ d o n e a. (e, (b, is, a))) status desk old new h
 bundle_shows Compile b is status desk old new h = told_shows (Some (command.Bundle Compile)) (compiled_text b) (λ d o n e a. (e, (b, is, a))) status desk old new h
-bundle_shows (Simulate limit) b is status desk old new h = opening_shows limit (runnable b) status desk old new h
+bundle_shows (Simulate limit) b is status desk old new h = world_shows (opening_of b) limit status desk old new h
 
 -- ---------------------------------------------------------------- the end of the source
 
@@ -173,15 +171,11 @@ untaken_world : (o : Opening) (limit : ℕ) (status : Status) (desk : Desk) (old
 untaken_world o limit status desk old new (inl e) d k = subst (λ s. AnswersWorld o limit s desk old new) (sym e) (d, k)
 untaken_world o limit status desk old new (inr e) d k = subst (λ s. AnswersWorld o limit s desk old new) (sym e) (inl d, k)
 
-untaken_opening : (limit : ℕ) (made : Result Opening Refusal) (status : Status) (desk : Desk) (old new : Option (List ℕ)) → (status ≡ ReadFault) ⊎ (status ≡ NoMemory) → desk ≡ Empty → Keeps old new → Answers (due_opening limit made) status desk old new
-untaken_opening limit (Ok o) status desk old new s d k = untaken_world o limit status desk old new s d k
-untaken_opening limit (Err r) status desk old new s d k = untaken_due r status desk old new s d k
-
 untaken_judged : (c : BundleCommand) (due : Result Accepted Refusal) (status : Status) (desk : Desk) (old new : Option (List ℕ)) → (status ≡ ReadFault) ⊎ (status ≡ NoMemory) → desk ≡ Empty → Keeps old new → Answers (due_judged c due) status desk old new
 untaken_judged c (Err r) status desk old new s d k = untaken_due r status desk old new s d k
 untaken_judged Validate (Ok b) status desk old new s d k = untaken_text (valid_text b) status desk old new s d k
 untaken_judged Compile (Ok b) status desk old new s d k = untaken_text (compiled_text b) status desk old new s d k
-untaken_judged (Simulate limit) (Ok b) status desk old new s d k = untaken_opening limit (runnable b) status desk old new s d k
+untaken_judged (Simulate limit) (Ok b) status desk old new s d k = untaken_world (opening_of b) limit status desk old new s d k
 
 -- what is told of flat code that was judged is due
 pub judged_due : (made : Result Ir Refusal) (bytes : List ℕ) (status : Status) (desk : Desk) (old new : Option (List ℕ)) → JudgesFlat made bytes → AnswersJudged made status desk old new → AnswersFlat bytes status desk old new
@@ -216,3 +210,26 @@ pub untaken_ends : (A : Type 0) (e : TakeError) (status : Status) (desk : Desk) 
 untaken_ends A (take.Refused r) status desk old new left h t = refusal_ends r status desk old new left h t
 untaken_ends A take.Fault status desk old new left h t = subst (λ s. EndsRead s left) (sym h.0) tt
 untaken_ends A take.NoMemory status desk old new left h t = subst (λ s. EndsRead s left) (sym h.0) tt
+
+-- ---------------------------------------------------------------- a world that has settled
+
+module _ (o : Opening) (limit : ℕ) (p : Past) (result : Status) (desk : Desk) (old new : Option (List ℕ)) (text : List ℕ) (world : IsWorldOf o limit p)
+    (laid : desk ≡ Open p) (is_report : text ≡ report p) where
+  failed : IsDrained p ⊎ IsSpent p → (result ≡ WriteFault) × TookFront old new text → AnswersWorld o limit result desk old new
+  failed why h =
+      subst (λ z. AnswersWorld o limit z desk old new) (sym h.0)
+      (subst (λ z. AnswersWorld o limit WriteFault z old new) (sym laid) (world, why, subst (TookFront old new) is_report h.1))
+
+  -- no event may happen there, and its report is written
+  pub drained_told : IsDrained p → Wrote old new text Written result → AnswersWorld o limit result desk old new
+  drained_told drained (inl h) =
+      subst (λ z. AnswersWorld o limit z desk old new) (sym h.0)
+      (subst (λ z. AnswersWorld o limit Written z old new) (sym laid) (world, drained, subst (Appends old new) is_report h.1))
+  drained_told drained (inr h) = failed (inl drained) h
+
+  -- its history is full, and its report is written
+  pub spent_told : IsSpent p → Wrote old new text Spent result → AnswersWorld o limit result desk old new
+  spent_told spent (inl h) =
+      subst (λ z. AnswersWorld o limit z desk old new) (sym h.0)
+      (subst (λ z. AnswersWorld o limit Spent z old new) (sym laid) (world, spent, subst (Appends old new) is_report h.1))
+  spent_told spent (inr h) = failed (inr spent) h

@@ -1,5 +1,5 @@
-pub mod Chains
 pub mod Computed
 pub mod Due
 pub mod FlatJudged
 pub mod Lines
+pub mod Worked

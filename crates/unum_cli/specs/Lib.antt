@@ -2,8 +2,8 @@ pub mod Codes
 pub mod FlatCode
 pub mod Refused
 pub mod Report
-pub mod Runnable
 pub mod Shown
 pub mod Tool
 pub mod Valid
 pub mod Words
+pub mod Worked

@@ -4,11 +4,11 @@ use Rattle.unum_json.specs.declared.outcome.Outcome.{Outcome}
 use Rattle.unum_json.specs.Outcome.{outcome_value}
 use Rattle.unum_json.specs.Written.{text}
 use Rattle.place_name.specs.Spelling.{spelling}
-use Rattle.unum_world.specs.declared.moment.Entry.{Entry}
-use Rattle.unum_world.specs.declared.session.Totals.{Totals}
-use Rattle.unum_world.specs.Worlds.{World}
-use Rattle.unum_world.specs.Sessions.{Standing, Ended, Abandoned, StillOpen, session_of, totals_of}
-use Rattle.unum_world.specs.Seen.{Past, now}
+use Rattle.world_types.specs.declared.queue.Entry.{Entry}
+use Rattle.world_model.specs.Numbered.{Numbered}
+use Rattle.world_plans.specs.declared.totals.Totals.{Totals}
+use Rattle.world_plans.specs.Standings.{Standing, Ended, Abandoned, StillOpen, session_of, totals_of}
+use Rattle.unum_world.specs.Pasts.{Past, now}
 
 -- f of each number from k on, so many
 unfoldable pub lines : (f : ℕ → List ℕ) → (k count : ℕ) → List ℕ
@@ -29,7 +29,7 @@ session_text k None = []
 session_text k (Some s) = codes "session " ++ decimal k ++ codes " " ++ state_text s ++ codes "\n"
 
 -- the line of a session
-abbrev pub session_line : World → ℕ → List ℕ
+abbrev pub session_line : Numbered → ℕ → List ℕ
 session_line w k = session_text k (session_of w k)
 
 abbrev pub entry_text : Option Entry → List ℕ
@@ -37,7 +37,7 @@ entry_text None = []
 entry_text (Some e) = codes "entry " ++ spelling e.name ++ codes " " ++ decimal e.ticket ++ codes " " ++ outcome_text e.answer ++ codes "\n"
 
 -- the line of a checkpoint that won
-abbrev pub entry_line : World → ℕ → List ℕ
+abbrev pub entry_line : Numbered → ℕ → List ℕ
 entry_line w k = entry_text (slice_get w.journal k)
 
 unfoldable pub sessions_text : Totals → List ℕ

@@ -6,11 +6,11 @@ use Rattle.unum_json.specs.declared.outcome.Outcome.TheVariants.{Failed}
 use Rattle.place_name.specs.declared.kind.Kind.TheVariants as kind
 use Rattle.fn_table.specs.declared.table.Table.{Table}
 use Rattle.asl_model.specs.declared.machine.Machine.{Machine}
+use Rattle.world_types.specs.declared.queue.Event.{Event}
+use Rattle.world_types.specs.declared.queue.Event.TheVariants.{Deliver, Crash, GiveUp}
+use Rattle.world_plans.specs.declared.planning.Plan.{Plan}
+use Rattle.world_plans.specs.Standings.{Ended}
 use Rattle.unum_world.specs.declared.opening.Opening.{Opening}
-use Rattle.unum_world.specs.declared.planning.Plan.{Plan}
-use Rattle.unum_world.specs.declared.queue.Event.{Event}
-use Rattle.unum_world.specs.declared.queue.Event.TheVariants.{Deliver, Crash, GiveUp}
-use Rattle.unum_world.specs.Sessions.{Ended}
 use Rattle.unum_cli.specs.Words.{command, simulation}
 use Rattle.unum_cli.specs.Report.{outcome_text, session_text, entry_text, totals_text, report}
 

@@ -6,14 +6,13 @@ use Rattle.unum_io.specs.Told.{TookFront}
 use Rattle.asl_read.specs.declared.fault.LRule.TheVariants.{L0}
 use Rattle.unum_ir.specs.declared.ir.Ir.{Ir as FlatIr}
 use Rattle.unum_ir.specs.WellFormed.{IsWellFormed}
-use Rattle.bundle_read.specs.Accepted.{Accepted, IsAccepted}
+use Rattle.bundle_read.specs.Accepted.{Accepted, IsAccepted, opening_of}
 use Rattle.bundle_read.specs.Judged.{judged}
 use Rattle.bundle_read.specs.declared.refusal.RuleCode.TheVariants.{Reading}
 use Rattle.bundle_read.specs.declared.refusal.Refusal.{Refusal}
 use Rattle.bundle_read.specs.declared.refusal.Refusal.TheVariants.{One}
 use Rattle.unum_world.specs.declared.opening.Opening.{Opening}
-use Rattle.unum_world.specs.Chained.{IsDrained}
-use Rattle.unum_world.specs.Seen.{Past, now, IsChosen}
+use Rattle.unum_world.specs.Pasts.{Past, IsChosen, IsDrained, IsFull}
 use Rattle.unum_world.specs.Answers.{IsEnabledSome}
 use Rattle.unum_world.specs.Sound.{IsSound}
 use Rattle.unum_cli.specs.declared.commands.Command.{Command}
@@ -28,7 +27,6 @@ use Rattle.unum_cli.specs.declared.taking.TakeError.{TakeError}
 use Rattle.unum_cli.specs.declared.taking.TakeError.TheVariants as take
 use Rattle.unum_cli.specs.FlatCode.{compiled_text, flat_text, JudgesFlat}
 use Rattle.unum_cli.specs.Refused.{refusal_text}
-use Rattle.unum_cli.specs.Runnable.{runnable}
 use Rattle.unum_cli.specs.Valid.{valid_text}
 use Rattle.unum_cli.specs.Words.{command}
 use Rattle.unum_cli.specs.Report.{report}
@@ -50,15 +48,11 @@ pub data Due : Type 0 where
   World_due : Opening → (limit : ℕ) → Due
   Flat_due : (bytes : List ℕ) → Due
 
-abbrev pub due_opening : (limit : ℕ) → Result Opening Refusal → Due
-due_opening limit (Ok o) = World_due o limit
-due_opening limit (Err r) = Refusal_due r
-
 -- what a command is to do with a bundle
 abbrev pub due_bundle : BundleCommand → Accepted → Due
 due_bundle Validate b = Text_due (valid_text b)
 due_bundle Compile b = Text_due (compiled_text b)
-due_bundle (Simulate limit) b = due_opening limit (runnable b)
+due_bundle (Simulate limit) b = World_due (opening_of b) limit
 
 abbrev pub due_judged : BundleCommand → Result Accepted Refusal → Due
 due_judged c (Ok b) = due_bundle c b
@@ -85,7 +79,7 @@ pub record IsWorldOf (o : Opening) (limit : ℕ) (p : Past) : Type 0 where
 
 -- the history is full, and some event is enabled
 abbrev pub IsSpent : Past → Type 0
-IsSpent p = IsEnabledSome p × (p.limit ≤ length p.history)
+IsSpent p = IsEnabledSome p × IsFull p
 
 -- the world on the desk, if there is one
 abbrev pub OnDesk : Desk → (Past → Type 0) → Type 0
@@ -122,9 +116,9 @@ AnswersText text _ desk old new = ⊥
 
 -- the world is on the desk, drained or at its limit, and its report is written
 abbrev pub AnswersWorld : Opening → (limit : ℕ) → Status → Desk → (old new : Option (List ℕ)) → Type 0
-AnswersWorld o limit Written desk old new = OnDesk desk (λ p. IsWorldOf o limit p × IsDrained (now p) × Appends old new (report p))
+AnswersWorld o limit Written desk old new = OnDesk desk (λ p. IsWorldOf o limit p × IsDrained p × Appends old new (report p))
 AnswersWorld o limit Spent desk old new = OnDesk desk (λ p. IsWorldOf o limit p × IsSpent p × Appends old new (report p))
-AnswersWorld o limit WriteFault desk old new = OnDesk desk (λ p. IsWorldOf o limit p × (IsDrained (now p) ⊎ IsSpent p) × TookFront old new (report p))
+AnswersWorld o limit WriteFault desk old new = OnDesk desk (λ p. IsWorldOf o limit p × (IsDrained p ⊎ IsSpent p) × TookFront old new (report p))
 AnswersWorld o limit ReadFault desk old new = (desk ≡ Empty) × Keeps old new
 AnswersWorld o limit NoMemory desk old new = ((desk ≡ Empty) ⊎ OnDesk desk (λ p. IsWorldOf o limit p)) × Keeps old new
 AnswersWorld o limit _ desk old new = ⊥
@@ -155,7 +149,7 @@ abbrev pub ShowsDone : Option Command → Status → Desk → (old new : Option 
 ShowsDone (Some (Bundle Validate)) Written desk old new = (desk ≡ Empty) × ((b : Accepted) × IsAccepted b × Appends old new (valid_text b))
 ShowsDone (Some (Bundle Compile)) Written desk old new = (desk ≡ Empty) × ((b : Accepted) × IsAccepted b × Appends old new (compiled_text b))
 ShowsDone (Some Ir) Written desk old new = (desk ≡ Empty) × ((ir : FlatIr) × IsWellFormed ir × Appends old new (flat_text ir))
-ShowsDone (Some (Bundle (Simulate limit))) Written desk old new = OnDesk desk (λ p. (p.limit ≡ limit) × IsChosen p × IsDrained (now p) × Appends old new (report p))
+ShowsDone (Some (Bundle (Simulate limit))) Written desk old new = OnDesk desk (λ p. (p.limit ≡ limit) × IsChosen p × IsDrained p × Appends old new (report p))
 ShowsDone (Some (Bundle (Simulate limit))) Spent desk old new = OnDesk desk (λ p. (p.limit ≡ limit) × IsChosen p × IsSpent p × Appends old new (report p))
 ShowsDone c status desk old new = ⊥
 

@@ -3,7 +3,7 @@ use Rattle.std.specs.Prelude.{ℕ, List, ◌++◌, length, sum_by, codes, decima
 use Rattle.asl_model.specs.Blocks.{nodes}
 use Rattle.asl_model.specs.Tree.{tree_of}
 use Rattle.bundle_read.specs.Accepted.{Accepted}
-use Rattle.bundle_read.specs.Bounds.{Text, Machines}
+use Rattle.bundle_read.specs.Bounds.{Text}
 use Rattle.asl_model.specs.declared.machine.Machine.{Machine}
 
 -- the states of all blocks of a machine

@@ -1,73 +1,46 @@
 //! Flat code: what `compile` prints of a bundle, and what `ir` tells of a text.
 
 ghost use Rattle.std.specs.Prelude.{◌≡◌, ◌≢◌, ◌≤◌, ◌++◌, [], Some, Err, flat_map, length, string_bytes, IfOk, OnOk};
-ghost use Rattle.std.specs.List.{AllByRecursion};
-ghost use Rattle.asl_model.specs.Tree.{tree_of};
-ghost use Rattle.asl_model.specs.Valid.{broken};
 ghost use Rattle.serde_json.specs.View.{view};
-ghost use Rattle.unum_json.specs.Written.{text};
 ghost use Rattle.unum_ir.specs.WellFormed.{IsWellFormed};
-ghost use Rattle.continuation_gen.specs.Numbering.{flat_form};
-ghost use Rattle.ir_text.specs.Printed.{ir_value};
 ghost use Rattle.unum_cli.specs.FlatCode.{compiled_line, compiled_text, flat_text, JudgesFlat, JudgesParsed, JudgesOnce};
 ghost use Rattle.unum_cli.specs.Tool.{TakesFlat};
 
 use crate::refusals::push_quoted;
 use crate::session_report::push_number;
 use crate::taking::TakeError;
-use asl_model::{Machine, valid};
 use asl_read::LRule;
 use bundle_read::{Bundle, Refusal, RuleCode, open_bundle};
-use continuation_gen::compile;
+use continuation_gen::Compiled;
 use ir_text::{IrError, print, read as read_ir};
 use serde_json::Value;
 use std::alloc::Global;
 use unum_ir::Ir;
 use unum_json::{JsonError, NoMemory, Text, read};
 
-/// The text of a valid machine's flat code.
-fn code_text(alloc: Global, machine: Machine) -> Result<Text, NoMemory>
-    requires { broken (tree_of machine) ≡ [] }
-    ensures { IfOk result (λ t. t ≡ text (ir_value (flat_form (tree_of machine)))) }
-{
-    valid();
-    let compiled = compile(alloc, machine)?;
-    let text = print(alloc, compiled.ir());
-    drop(compiled);
-    text
-}
-
 /// Adds the line of a machine.
-fn push_machine(
-    alloc: Global,
-    out: &mut String,
-    name: Text,
-    machine: Machine,
-) -> Result<(), NoMemory>
-    requires { broken (tree_of machine) ≡ [] }
-    ensures { OnOk result (string_bytes out.new ≡ string_bytes out.old ++ compiled_line (name, machine)) }
+fn push_machine(alloc: Global, out: &mut String, row: &(Text, Compiled)) -> Result<(), NoMemory>
+    ensures { OnOk result (string_bytes out.new ≡ string_bytes out.old ++ compiled_line row.now) }
 {
-    let text = code_text(alloc, machine)?;
+    let text = print(alloc, row.1.ir())?;
     out.push_str("ir")?;
-    push_quoted(alloc, out, &name)?;
+    push_quoted(alloc, out, &row.0)?;
     out.push_str(" ")?;
     out.push_str(text.as_str())?;
     out.push_str("\n")?;
     Ok(())
 }
 
-/// Adds the lines of valid machines.
+/// Adds the lines of machines.
 fn push_machines(
     alloc: Global,
     out: &mut String,
-    machines: Vec<(Text, Machine)>,
+    machines: &[(Text, Compiled)],
 ) -> Result<(), NoMemory>
-    requires { AllByRecursion (λ m. broken (tree_of m.1) ≡ []) machines.items }
-    ensures { OnOk result (string_bytes out.new ≡ string_bytes out.old ++ flat_map compiled_line machines.items) }
+    ensures { OnOk result (string_bytes out.new ≡ string_bytes out.old ++ flat_map compiled_line machines.now) }
 {
     for row in machines {
-        let (name, machine) = row;
-        push_machine(alloc, out, name, machine)?;
+        push_machine(alloc, out, row)?;
     }
     Ok(())
 }
@@ -76,9 +49,10 @@ fn push_machines(
 pub fn compiled_text(alloc: Global, bundle: Bundle) -> Result<Text, NoMemory>
     ensures { IfOk result (λ t. t ≡ compiled_text bundle) }
 {
-    let opening = open_bundle(bundle);
+    let opening = open_bundle(alloc, bundle)?;
     let mut out = String::new(alloc);
-    push_machines(alloc, &mut out, opening.machines.into_vec())?;
+    push_machines(alloc, &mut out, opening.machines.as_slice())?;
+    drop(opening);
     Ok(Text::from_string(out)?)
 }
 

@@ -4,7 +4,6 @@
 mod answer;
 mod commands;
 mod flat_code;
-mod not_yet;
 mod refusals;
 pub mod session_report;
 mod shown;
@@ -19,6 +18,5 @@ pub use bundle_read::{
     BRule, BrokenPair, Bundle, BundleError, Refusal, RuleCode, open_bundle, read_bundle,
 };
 pub use flat_code::flat_code_is_judged_once;
-pub use not_yet::runnable;
-pub use shown::{worked_report, worked_words};
+pub use shown::{worked_plans, worked_report, worked_standings, worked_words};
 pub use top::tool;

@@ -1,13 +1,15 @@
 ghost use Rattle.std.specs.Prelude.{◌≡◌, ◌++◌, decimal, slice_get, length, string_bytes, IfOk, OnOk};
 ghost use Rattle.unum_world.specs.Answers.{IsOne};
-ghost use Rattle.unum_world.specs.Sessions.{Standing, session_of};
-ghost use Rattle.unum_world.specs.Seen.{now};
+ghost use Rattle.unum_world.specs.Pasts.{now};
+ghost use Rattle.world_plans.specs.Standings.{Standing, session_of};
 ghost use Rattle.unum_cli.specs.Report.{outcome_text, state_text, session_text, session_line, entry_text, entry_line, sessions_text, counts_text, tries_text, totals_text, totals_line, lines, report as report_of};
 
 use place_name::spell;
 use std::alloc::Global;
 use unum_json::{NoMemory, Outcome, Text, outcome_json, to_text};
-use unum_world::{Entry, SessionState, Totals, World};
+use unum_world::{SessionState, World};
+use world_plans::Totals;
+use world_types::Entry;
 
 /// Adds a label and a number.
 pub(crate) fn push_number(out: &mut String, label: &str, number: u64) -> Result<(), NoMemory>

@@ -1,6 +1,6 @@
 ghost use Rattle.std.specs.Prelude.{◌≡◌, ◌≢◌, ◌⊎◌, ◌≤◌, [], Err, None, Some, IfSome, IfOk, length};
 ghost use Rattle.unum_io.specs.Causes.{Rose};
-ghost use Rattle.unum_world.specs.Seen.{Fits};
+ghost use Rattle.unum_world.specs.Openings.{Fits};
 ghost use Rattle.bundle_read.specs.Accepted.{IsAccepted};
 ghost use Rattle.bundle_read.specs.Judged.{judged};
 ghost use Rattle.unum_ir.specs.WellFormed.{IsWellFormed};
@@ -12,14 +12,13 @@ ghost use Rattle.unum_cli.specs.Tool.{due, due_bundle, due_judged, Answers, Answ
 use crate::answer::{Desk, Status};
 use crate::commands::{BundleCommand, Command};
 use crate::flat_code::{compiled_text, flat_text, read_flat};
-use crate::not_yet::runnable;
 use crate::refusals::refusal_text;
 use crate::session_report::report;
 use crate::taking::TakeError;
 use crate::validate::valid_text;
 use crate::words::command;
 use asl_read::LRule;
-use bundle_read::{Bundle, BundleError, Refusal, RuleCode, read_bundle};
+use bundle_read::{Bundle, BundleError, Refusal, RuleCode, open_bundle, read_bundle};
 use std::alloc::Global;
 use unum_io::{Bytes, ReadAll, Sink, Source, read_all, write_all};
 use unum_ir::Ir;
@@ -233,7 +232,8 @@ fn simulate<K: Sink>(
     desk: &mut Desk,
 ) -> Status
     requires empty { desk.old ≡ Desk.Empty }
-    requires fits { Fits opening limit }
+    requires fits { Fits opening }
+    requires limited { limit ≤ 10000000 }
     ensures told { AnswersWorld opening limit result desk.new (K.taken out.old) (K.taken out.new) }
     ensures only { IsOfBundle result }
     ensures sound { HoldsSound desk.new }
@@ -246,7 +246,7 @@ fn simulate<K: Sink>(
     }
 }
 
-/// Simulates the world of a bundle, if it runs today.
+/// Simulates the world of a bundle.
 #[tactic(auto, using(crate::proofs::Due::empty_sound))]
 fn run<K: Sink>(alloc: Global, bundle: Bundle, limit: u64, out: &mut K, desk: &mut Desk) -> Status
     requires empty { desk.old ≡ Desk.Empty }
@@ -257,10 +257,9 @@ fn run<K: Sink>(alloc: Global, bundle: Bundle, limit: u64, out: &mut K, desk: &m
     ensures later { K.faults out.old ≤ K.faults out.new }
     ensures cause { result ≡ Status.WriteFault → Rose (K.faults out.old) (K.faults out.new) }
 {
-    match runnable(alloc, bundle) {
+    match open_bundle(alloc, bundle) {
         Ok(opening) => simulate(alloc, opening, limit, out, desk),
-        Err(BundleError::Refused(refusal)) => refuse(alloc, out, refusal),
-        Err(BundleError::NoMemory) => Status::NoMemory,
+        Err(_) => Status::NoMemory,
     }
 }
 

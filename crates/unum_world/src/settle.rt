@@ -1,5 +1,7 @@
-ghost use Rattle.std.specs.Prelude.{◌≡◌, [], IfOk};
-ghost use Rattle.unum_world.specs.Seen.{Fits, IsChosen};
+//! Worlds whose events are all the chooser's.
+ghost use Rattle.std.specs.Prelude.{◌≡◌, ◌≤◌, IfOk};
+ghost use Rattle.unum_world.specs.Openings.{Fits};
+ghost use Rattle.unum_world.specs.Pasts.{opening_past, IsChosen};
 ghost use Rattle.unum_world.specs.Answers.{Settles};
 
 use crate::opening::Opening;
@@ -17,14 +19,14 @@ pub struct Planned {
 }
 
 impl Model for Planned {
-    ghost use Rattle.unum_world.specs.Seen.{Past, begun, IsChosen};
-    ghost use Rattle.unum_json.specs.contracts.value.Json as json;
-    ghost use Rattle.asl_model.specs.contracts.machine.Block as block;
+    ghost use Rattle.unum_world.specs.Pasts.{Past, IsChosen};
+    ghost use Rattle.unum_json.specs.contracts.kept.Json as json;
+    ghost use Rattle.asl_model.specs.contracts.machine.Machine as machine;
     ghost use Rattle.std.specs.Coded.{codes};
 
     ghost Value = { Past };
 
-    ghost coded = { Prim.hlevel (codes, json.the_row.coded, block.the_row.coded) };
+    ghost coded = { Prim.hlevel (codes, json.the_row.coded, machine.the_row.coded) };
 
     ghost view = { λ p. p.world };
 
@@ -34,8 +36,9 @@ impl Model for Planned {
 impl Planned {
     /// A world that begins so, with room for `limit` events; as [`World::open`].
     pub fn open(alloc: Global, opening: Opening, limit: u64) -> Result<Planned, NoMemory>
-        requires { Fits opening limit }
-        ensures { IfOk result (λ p. p ≡ record { opening = opening; limit = limit; history = [] }) }
+        requires fits { Fits opening }
+        requires limit { limit ≤ 10000000 }
+        ensures { IfOk result (λ p. p ≡ opening_past opening limit) }
     {
         let world = World::open(alloc, opening, limit)?;
         Ok(Planned { world })
@@ -69,8 +72,8 @@ fn settle(alloc: Global, world: &mut World) -> Result<Settled, NoMemory>
     ensures chosen { IsChosen world.new }
     ensures settled { Settles result world.new }
 {
-    while let Some(e) = world.choose(alloc)? {
-        match world.apply(alloc, e) {
+    while let Some(event) = world.choose() {
+        match world.apply(alloc, event) {
             Ok(()) => (),
             Err(ApplyError::Spent { len: _ }) => return Ok(Settled::Spent),
             Err(ApplyError::NoMemory) => return Err(NoMemory),

@@ -1,4 +1,6 @@
-/// How a world has settled.
+//! How a world that its chooser runs comes to rest.
+
+/// Why the chooser makes no more events.
 #[derive(Clone, Copy, Debug, PartialEq, Eq)]
 pub enum Settled {
     /// No event is enabled.

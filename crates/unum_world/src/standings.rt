@@ -1,18 +1,26 @@
-ghost use Rattle.std.specs.Prelude.{◌≡◌, ◌≤◌, ◌<◌, ◌+◌, length};
+//! How sessions stand, and the totals.
+ghost use Rattle.std.specs.Prelude.{◌≡◌, ◌≤◌, ◌<◌, ◌+◌, ◌||◌, not, nat_eq, length};
 ghost use Rattle.std.specs.Option.{option_copied};
-ghost use Rattle.old_world.specs.Operations.{root};
-ghost use Rattle.unum_world.specs.Sessions.{standing, all_over, is_over, outcome_in, counted, count_from, no_counts, crash_in, crashes_in, totals_of};
-ghost use Rattle.unum_world.specs.Seen.{seen, objects_of};
+ghost use Rattle.place_name.specs.declared.limits.TheConstants.{SESSIONS};
+ghost use Rattle.place_name.specs.declared.obj.Obj.TheVariants as object;
+ghost use Rattle.world_model.specs.AnyCode.Names.{root};
+ghost use Rattle.world_plans.specs.Standings.{Standing, standing, all_over, is_over, outcome_in};
+ghost use Rattle.world_plans.specs.Standings.{counts_with, count_from, no_counts, crashes_in, totals_of};
+ghost use Rattle.checkpoint_store.specs.Entries.{objects_of};
+ghost use Rattle.unum_world.specs.Openings.{opening_as};
+ghost use Rattle.unum_world.specs.Pasts.{world_of};
+ghost use Rattle.unum_world.specs.declared.opening.Opening.{Opening};
 ghost use Rattle.unum_world.specs.Answers.{IsOne};
 
-use crate::held::{Held, Slot};
-use crate::hub::Store;
 use crate::moment::Moment;
 use crate::opening::Opening;
-use crate::queue::{Event, InvState, Invocation};
-use crate::session::{Counts, SessionState, Totals};
-use place_name::{Obj, Scope, Trail};
+use crate::session::SessionState;
+use checkpoint_store::{Slot, Store};
+use invoke_queue::Queue;
+use place_name::{Obj, SESSIONS, Scope, Trail};
 use unum_json::Outcome;
+use world_plans::{Counts, Totals};
+use world_types::{Event, Held, InvState, Invocation};
 
 /// An invocation is acknowledged or given up, and none of its attempts lives.
 fn is_over(s: &InvState) -> bool
@@ -21,16 +29,27 @@ fn is_over(s: &InvState) -> bool
     (s.acked || s.dead) && s.live == 0
 }
 
-/// Each invocation of the session is over.
-#[tactic(auto, unfolding(crate::specs::Sessions::all_over))]
-fn all_over(invs: &[Invocation], states: &[InvState], session: u32) -> bool
-    ensures { result ≡ all_over session invs.now states.now }
+/// An invocation is of another session, or it is over.
+fn is_settled(i: &Invocation<u32>, s: &InvState, session: u32) -> bool
+    ensures { result ≡ not (nat_eq i.now.name.place.session session) || is_over s.now }
 {
-    for (k, i) in invs.iter().enumerate() {
-        let Some(s) = states.get(k) else {
+    i.name.place.session != session || is_over(s)
+}
+
+/// Each invocation of the session is over.
+#[tactic(auto, unfolding(world_plans::specs::Standings::all_over))]
+fn all_over(queue: &Queue, session: u32) -> bool
+    requires { length queue.now.invs ≤ 4294967295 }
+    ensures { result ≡ all_over session queue.now.invs queue.now.states }
+{
+    for k in 0..queue.invocations() {
+        let Some(i) = queue.invocation(k as u32) else {
+            unreachable!();
+        };
+        let Some(s) = queue.state(k as u32) else {
             return true;
         };
-        if i.name.place.session == session && !is_over(s) {
+        if !is_settled(i, &s, session) {
             return false;
         }
     }
@@ -39,31 +58,30 @@ fn all_over(invs: &[Invocation], states: &[InvState], session: u32) -> bool
 
 /// The outcome of a session, where it has ended.
 fn outcome_of(store: &Store, session: u32) -> Option<&Outcome>
-    requires { session < 1000 }
-    ensures { option_copied result ≡ outcome_in (objects_of store.now (Obj.Out (root session))) }
+    requires { session < SESSIONS }
+    ensures { option_copied result ≡ outcome_in (objects_of store.now (object.Out (root session))) }
 {
     let scope = Scope {
         session,
         trail: Trail::new(),
     };
     match store.look(&Obj::Out(scope)) {
-        Some(Slot::Live(Held::Out(outcome))) => Some(outcome),
+        Some(Slot::Live(Held::Outcome(outcome))) => Some(outcome),
         _ => None,
     }
 }
 
 /// How a session stands.
-#[tactic(auto, unfolding(crate::specs::Sessions::standing))]
-pub fn standing<'a>(o: &Opening, now: &'a Moment, session: u32) -> SessionState<'a>
-    requires { session < 1000 }
-    ensures { IsOne result (standing (seen o.now now.now) session) }
+#[tactic(auto, unfolding(world_plans::specs::Standings::standing))]
+pub fn standing<'a>(now: &'a Moment, session: u32) -> SessionState<'a>
+    requires there { session < SESSIONS }
+    requires few { length now.now.hub.queue.invs ≤ 4294967295 }
+    ensures { (o : Opening) → IsOne result (standing (world_of o now.now) session) }
 {
-    let queue = &now.hub.queue;
-    let over = all_over(queue.invs.as_slice(), queue.states.as_slice(), session);
     match outcome_of(&now.hub.store, session) {
         Some(outcome) => SessionState::Ended(outcome),
         None => {
-            if over {
+            if all_over(&now.hub.queue, session) {
                 SessionState::Abandoned
             } else {
                 SessionState::Open
@@ -72,11 +90,10 @@ pub fn standing<'a>(o: &Opening, now: &'a Moment, session: u32) -> SessionState<
     }
 }
 
-/// One session more.
-fn count_one(counts: &mut Counts, state: SessionState<'_>, of: &Opening, now: &Moment, session: u32)
-    requires is { IsOne state (standing (seen of.now now.now) session) }
-    requires room { counts.old.ended + counts.old.abandoned + counts.old.still_open < 1000 }
-    ensures count { counts.new ≡ counted (standing (seen of.now now.now) session) counts.old }
+/// Counts one session more.
+fn count_one(counts: &mut Counts, state: SessionState<'_>)
+    requires { counts.old.ended + counts.old.abandoned + counts.old.still_open < 1000 }
+    ensures count { (s : Standing) → IsOne state.entry s → counts.new ≡ counts_with s counts.old }
     ensures sum { counts.new.ended + counts.new.abandoned + counts.new.still_open ≡ counts.old.ended + counts.old.abandoned + counts.old.still_open + 1 }
 {
     match state {
@@ -87,26 +104,25 @@ fn count_one(counts: &mut Counts, state: SessionState<'_>, of: &Opening, now: &M
 }
 
 /// How many sessions stand in each way.
-#[tactic(auto, unfolding(crate::specs::Sessions::count_from))]
+#[tactic(auto, unfolding(world_plans::specs::Standings::count_from))]
 fn count(o: &Opening, now: &Moment) -> Counts
-    requires { length o.now.sessions ≤ 1000 }
-    ensures { result ≡ count_from (seen o.now now.now) 0 o.now.sessions no_counts }
+    requires sessions { length o.now.sessions ≤ SESSIONS }
+    requires few { length now.now.hub.queue.invs ≤ 4294967295 }
+    ensures { result ≡ count_from (world_of o.now now.now) 0 (opening_as o.now).sessions no_counts }
 {
     let mut counts = Counts {
         ended: 0,
         abandoned: 0,
         still_open: 0,
     };
-    let sessions = o.sessions.as_slice();
-    for (k, _session) in sessions.iter().enumerate() {
-        let state = standing(o, now, k as u32);
-        count_one(&mut counts, state, o, now, k as u32);
+    for s in 0..o.sessions.len() {
+        count_one(&mut counts, standing(now, s as u32));
     }
     counts
 }
 
 /// How many of the events are crashes.
-#[tactic(auto, unfolding(crate::specs::Sessions::crashes_in))]
+#[tactic(auto, unfolding(world_plans::specs::Standings::crashes_in))]
 fn crashes(history: &[Event]) -> u64
     requires { length history.now ≤ 10000000 }
     ensures { result ≡ crashes_in history.now }
@@ -122,9 +138,10 @@ fn crashes(history: &[Event]) -> u64
 
 /// What a world with that history counts.
 pub fn totals(o: &Opening, now: &Moment, history: &[Event]) -> Totals
-    requires sessions { length o.now.sessions ≤ 1000 }
+    requires sessions { length o.now.sessions ≤ SESSIONS }
+    requires few { length now.now.hub.queue.invs ≤ 4294967295 }
     requires history { length history.now ≤ 10000000 }
-    ensures { result ≡ totals_of (seen o.now now.now) history.now }
+    ensures { result ≡ totals_of (world_of o.now now.now) history.now }
 {
     let counts = count(o, now);
     Totals {
@@ -132,10 +149,10 @@ pub fn totals(o: &Opening, now: &Moment, history: &[Event]) -> Totals
         ended: counts.ended,
         abandoned: counts.abandoned,
         still_open: counts.still_open,
-        entries: now.journal.as_slice().len() as u64,
+        entries: now.journal.len() as u64,
         events: history.len() as u64,
-        invocations: now.hub.queue.invs.as_slice().len() as u64,
-        attempts: now.hub.queue.atts.as_slice().len() as u64,
+        invocations: now.hub.queue.invocations() as u64,
+        attempts: now.hub.queue.attempts() as u64,
         crashes: crashes(history),
         marks: now.marks,
     }

@@ -1,28 +1,34 @@
-ghost use Rattle.std.specs.Prelude.{◌≡◌, ℕ, ◌↔◌, ◌≤◌, ◌<◌, IsSome, None, Some, List, [], ◌∷◌, ◌++◌, length, slice_get, IfOk, OnOk, OnErr, IsTrue, IsFalse};
+//! Worlds.
+ghost use Rattle.std.specs.Prelude.{◌≡◌, ℕ, ◌↔◌, ◌≤◌, ◌<◌, None, Some, Ok, Err, [], length, slice_get, IfOk, OnOk, OnErr, IsTrue, IsFalse};
 ghost use Rattle.std.specs.Option.{option_copied};
-ghost use Rattle.unum_world.specs.Worlds.{enabled, event_takes_memory, asked};
-ghost use Rattle.unum_world.specs.Sessions.{session_of, totals_of};
-ghost use Rattle.unum_world.specs.Answers.{IsStanding, WhyAnswer};
-ghost use Rattle.unum_world.specs.Seen.{Why, now, after_event, is_enabled, chosen_event, Fits};
-ghost use Rattle.unum_world.specs.Chained.{IsDrained};
+ghost use Rattle.world_types.specs.declared.queue.Event.TheVariants.{Answer};
+ghost use Rattle.place_name.specs.declared.limits.TheConstants.{SESSIONS};
+ghost use Rattle.world_plans.specs.Standings.{session_of, totals_of};
+ghost use Rattle.checkpoint_store.specs.Entries.{objects_of};
+ghost use Rattle.unum_world.specs.Openings.{codes_of, Fits};
+ghost use Rattle.unum_world.specs.Pasts.{Past, now, after_event, opening_past, is_enabled, chosen_event, IsDrained, IsSpent, IsRun, Why};
+ghost use Rattle.unum_world.specs.OneStep.{takes_memory};
+ghost use Rattle.invoke_queue.specs.Queue.{queue_of};
+ghost use Rattle.unum_world.specs.Answers.{IsStanding, IsAwaited, WhyAnswer};
 ghost use Rattle.unum_world.specs.Sound.{IsSound};
-ghost use Rattle.unum_world.specs.Plans.{pick};
 
-use crate::choosing::allowed;
-use crate::moment::{Entry, Moment};
+use crate::awaiting::is_awaited;
+use crate::choosing::choose_event;
+use crate::flat::machines_are_valid;
+use crate::happening::{make, may};
+use crate::moment::Moment;
 use crate::opening::Opening;
-use crate::opens::first_hub;
-use crate::past::{make, may};
-use crate::pending::is_asked;
-use crate::planning::Plan;
-use crate::queue::Event;
+use crate::opens::first_moment;
 use crate::refusal::ApplyError;
-use crate::session::{SessionState, Totals};
+use crate::session::SessionState;
 use crate::standings::{standing, totals};
 use fn_table::Answered;
 use std::alloc::Global;
 use std::marker::Model;
+use unum_hub::Hub;
 use unum_json::NoMemory;
+use world_plans::Totals;
+use world_types::{Entry, Event};
 
 /// A world. Callers see its opening, its limit and its history, and all that it is now is what the run of these makes.
 #[derive(Drop)]
@@ -34,15 +40,16 @@ pub struct World {
 }
 
 impl Model for World {
-    ghost use Rattle.unum_world.specs.Seen.{Past, Stands};
-    ghost use Rattle.unum_json.specs.contracts.value.Json as json;
-    ghost use Rattle.asl_model.specs.contracts.machine.Block as block;
+    ghost use Rattle.unum_world.specs.Pasts.{Past};
+    ghost use Rattle.unum_world.specs.Keeping.{Stands};
+    ghost use Rattle.unum_json.specs.contracts.kept.Json as json;
+    ghost use Rattle.asl_model.specs.contracts.machine.Machine as machine;
     ghost use Rattle.std.specs.Coded.{codes};
     ghost use Rattle.std.specs.Vec.{vec_capacity};
 
     ghost Value = { Past };
 
-    ghost coded = { Prim.hlevel (codes, json.the_row.coded, block.the_row.coded) };
+    ghost coded = { Prim.hlevel (codes, json.the_row.coded, machine.the_row.coded) };
 
     ghost view = { λ w. record { opening = w.opening; limit = w.limit; history = w.history.items } };
 
@@ -51,20 +58,22 @@ impl Model for World {
 
 impl World {
     /// A world that begins so, with room for `limit` events. The limit is at most 10,000,000, there are at most 1,000
-    /// sessions, each session's machine is there, and each machine is a chain: its states are at most 1,000 Tasks and
-    /// Succeeds with no data flow of their own, no retriers and no catchers.
+    /// sessions, each session's machine is there, and the plan's lists rise.
     pub fn open(alloc: Global, opening: Opening, limit: u64) -> Result<World, NoMemory>
-        requires { Fits opening limit }
-        ensures begun { IfOk result (λ w. w ≡ record { opening = opening; limit = limit; history = [] }) }
+        requires fits { Fits opening }
+        requires limit { limit ≤ 10000000 }
+        ensures begins { IfOk result (λ w. w ≡ opening_past opening limit) }
         ensures sound { IfOk result (λ w. IsSound w) }
     {
-        let history = Vec::with_capacity(alloc, limit as usize)?;
-        let hub = first_hub(alloc, opening.sessions.as_slice())?;
-        let moment = Moment {
-            hub,
-            phases: Vec::new(alloc),
-            journal: Vec::new(alloc),
-            marks: 0,
+        machines_are_valid(&opening.machines);
+        let Ok(moment) = first_moment(alloc, &opening) else {
+            drop(opening);
+            return Err(NoMemory);
+        };
+        let Ok(history) = Vec::with_capacity(alloc, limit as usize) else {
+            drop(moment);
+            drop(opening);
+            return Err(NoMemory);
         };
         let world = World {
             opening,
@@ -80,7 +89,7 @@ impl World {
     pub fn length(&self) -> u64
         ensures { result ≡ length self.now.history }
     {
-        self.history.as_slice().len() as u64
+        self.history.len() as u64
     }
 
     /// The event with that number; `None` exactly past the end.
@@ -94,7 +103,7 @@ impl World {
     pub fn entries(&self) -> u64
         ensures { result ≡ length (now self.now).journal }
     {
-        self.moment.journal.as_slice().len() as u64
+        self.moment.journal.len() as u64
     }
 
     /// The checkpoint that won with that number, in the order of winning; `None` exactly past the end.
@@ -109,7 +118,7 @@ impl World {
         ensures { IsStanding result (session_of (now self.now) s) }
     {
         match self.opening.sessions.get(s as usize) {
-            Some(_) => Some(standing(&self.opening, &self.moment, s)),
+            Some(_) => Some(standing(&self.moment, s)),
             None => None,
         }
     }
@@ -121,25 +130,33 @@ impl World {
         totals(&self.opening, &self.moment, self.history.as_slice())
     }
 
+    /// The objects and the queue, as they are now.
+    pub fn hub(&self) -> &Hub
+        ensures objects { objects_of result.now.store ≡ (now self.now).objects }
+        ensures queue { result.now.queue ≡ queue_of (now self.now) }
+    {
+        &self.moment.hub
+    }
+
     /// How the world began.
     pub fn opening(&self) -> &Opening
         ensures opening { result.now ≡ self.now.opening }
-        ensures few { length self.now.opening.sessions ≤ 1000 }
+        ensures few { length self.now.opening.sessions ≤ SESSIONS }
     {
         &self.opening
     }
 
     /// Whether the event is enabled now.
-    pub fn enabled(&self, e: Event) -> bool
-        ensures { result ≡ is_enabled self.now e }
+    pub fn enabled(&self, event: Event) -> bool
+        ensures { result ≡ is_enabled self.now event }
     {
-        may(&self.opening, &self.moment, e)
+        may(&self.moment, event)
     }
 
     /// What holds of every world: each checkpoint belongs to one central run of its session, in which each visit of a task
     /// answers at most once, with the checkpoint that won; each ended session has that run's outcome; nothing is collected
-    /// that is still to be read; fans keep to their limits; a session whose invocations are all acknowledged has ended; and
-    /// a world in which no event is enabled is at rest.
+    /// that is still to be read; fans keep to their limits; a session whose invocations are all acknowledged has ended; a
+    /// world in which no event is enabled is at rest; and the queue counts tries, live attempts and steps.
     pub fn is_sound(&self)
         ensures { IsSound self.now }
     {
@@ -149,90 +166,87 @@ impl World {
     /// Makes the event. `NotEnabled` comes exactly where it is not enabled, and `Spent` exactly where it is and the
     /// history is full. `NoMemory` comes last, and never for Crash, GiveUp or a Step that is a Mark or an Ack. After any
     /// refusal the world is as it was.
-    pub fn apply(&mut self, alloc: Global, e: Event) -> Result<(), ApplyError>
-        ensures ok { OnOk result (self.new ≡ after_event self.old e) }
+    pub fn apply(&mut self, alloc: Global, event: Event) -> Result<(), ApplyError>
+        ensures ok { OnOk result (self.new ≡ after_event self.old event) }
         ensures room { OnOk result (length self.old.history < self.old.limit) }
         ensures err { OnErr result (self.new ≡ self.old) }
-        ensures refused { (result ≡ Err (ApplyError.NotEnabled e)) ↔ IsFalse (is_enabled self.old e) }
-        ensures spent { (result ≡ Err (ApplyError.Spent (length self.old.history))) ↔ (IsTrue (is_enabled self.old e) × (self.old.limit ≤ length self.old.history)) }
-        ensures why { Why self.old e result }
-        ensures memory { (result ≡ Err ApplyError.NoMemory) → IsTrue (event_takes_memory (now self.old) e) }
+        ensures refused { (result ≡ Err (ApplyError.NotEnabled event)) ↔ IsFalse (is_enabled self.old event) }
+        ensures spent { (result ≡ Err (ApplyError.Spent (length self.old.history))) ↔ IsSpent self.old event }
+        ensures why { Why self.old event result }
+        ensures memory { (result ≡ Err ApplyError.NoMemory) → IsTrue (takes_memory (codes_of self.old.opening) (now self.old) event) }
         ensures sound { IsSound self.new }
     {
-        let answer = self.try_event(alloc, e);
+        let answer = self.try_event(alloc, event);
         self.is_sound();
         answer
     }
 
     /// Makes the answer of a function, for the attempt that called it: what `apply` does with Answer of its ticket.
-    /// `NotEnabled` comes also exactly where the attempt waits for another function or another input.
+    /// `NotEnabled` comes also exactly where the attempt waits for another function or another input. To find the input that
+    /// it waits for may take memory.
     pub fn answer(&mut self, alloc: Global, done: &Answered) -> Result<(), ApplyError>
-        ensures ok { OnOk result (self.new ≡ after_event self.old (Event.Answer done.now.ticket)) }
+        ensures ok { OnOk result (self.new ≡ after_event self.old (Answer done.now.ticket)) }
         ensures err { OnErr result (self.new ≡ self.old) }
         ensures why { WhyAnswer self.old done.now result }
         ensures sound { IsSound self.new }
     {
         let event = Event::Answer(done.ticket());
-        if !self.is_asked(done) {
-            self.is_sound();
-            return Err(ApplyError::NotEnabled { event });
+        match self.is_due(alloc, done) {
+            Ok(true) => self.apply(alloc, event),
+            Ok(false) => {
+                self.is_sound();
+                Err(ApplyError::NotEnabled { event })
+            }
+            Err(NoMemory) => {
+                self.is_sound();
+                Err(ApplyError::NoMemory)
+            }
         }
-        self.apply(alloc, event)
     }
 
-    /// Whether the call is the one that its attempt waits for.
-    fn is_asked(&self, done: &Answered) -> bool
-        ensures { IsTrue result ↔ (asked (now self.now) done.now.ticket ≡ Some done.now) }
+    /// Whether an attempt lives that waits for the call.
+    fn is_due(&self, alloc: Global, done: &Answered) -> Result<bool, NoMemory>
+        ensures { IfOk result (λ b. IsTrue b ↔ IsAwaited self.now done.now) }
     {
-        is_asked(&self.opening, &self.moment, done)
+        if !self.enabled(Event::Answer(done.ticket())) {
+            return Ok(false);
+        }
+        is_awaited(alloc, &self.opening, &self.moment, done)
     }
 
     /// What `apply` does.
-    fn try_event(&mut self, alloc: Global, e: Event) -> Result<(), ApplyError>
-        ensures ok { OnOk result (self.new ≡ after_event self.old e) }
+    fn try_event(&mut self, alloc: Global, event: Event) -> Result<(), ApplyError>
+        ensures ok { OnOk result (self.new ≡ after_event self.old event) }
         ensures room { OnOk result (length self.old.history < self.old.limit) }
         ensures err { OnErr result (self.new ≡ self.old) }
-        ensures refused { (result ≡ Err (ApplyError.NotEnabled e)) ↔ IsFalse (is_enabled self.old e) }
-        ensures spent { (result ≡ Err (ApplyError.Spent (length self.old.history))) ↔ (IsTrue (is_enabled self.old e) × (self.old.limit ≤ length self.old.history)) }
-        ensures why { Why self.old e result }
-        ensures memory { (result ≡ Err ApplyError.NoMemory) → IsTrue (event_takes_memory (now self.old) e) }
+        ensures refused { (result ≡ Err (ApplyError.NotEnabled event)) ↔ IsFalse (is_enabled self.old event) }
+        ensures spent { (result ≡ Err (ApplyError.Spent (length self.old.history))) ↔ IsSpent self.old event }
+        ensures why { Why self.old event result }
+        ensures memory { (result ≡ Err ApplyError.NoMemory) → IsTrue (takes_memory (codes_of self.old.opening) (now self.old) event) }
     {
-        if !self.enabled(e) {
-            return Err(ApplyError::NotEnabled { event: e });
+        if !self.enabled(event) {
+            return Err(ApplyError::NotEnabled { event });
         }
-        let len = self.history.as_slice().len() as u64;
+        let len = self.history.len() as u64;
         if len >= self.limit {
             return Err(ApplyError::Spent { len });
         }
-        if make(alloc, &self.opening, &mut self.moment, e).is_err() {
+        if make(alloc, &self.opening, &mut self.moment, event).is_err() {
             return Err(ApplyError::NoMemory);
         }
-        if self.history.push(e).is_err() {
+        if self.history.push(event).is_err() {
             unreachable!();
         }
         Ok(())
     }
 
     /// The event that the chooser takes next: of those that the plan allows, the one that it picks. `None` comes exactly
-    /// where no event is enabled.
-    pub fn choose(&self, alloc: Global) -> Result<Option<Event>, NoMemory>
-        ensures event { IfOk result (λ e. e ≡ chosen_event self.now) }
-        ensures drained { result ≡ Ok None → IsDrained (now self.now) }
+    /// where no event is enabled. It takes no memory, and its time does not grow with the world.
+    pub fn choose(&self) -> Option<Event>
+        ensures event { result ≡ chosen_event self.now }
+        ensures drained { result ≡ None → IsDrained self.now }
+        ensures happened { IsRun self.now }
     {
-        let events = allowed(alloc, &self.opening, &self.moment)?;
-        let len = self.history.as_slice().len() as u64;
-        let event = picked(&self.opening.plan, events.as_slice(), len);
-        Ok(event)
+        choose_event(&self.opening, &self.moment, self.history.len() as u64)
     }
-}
-
-/// The event that a plan picks, where the history has the length `len`.
-fn picked(plan: &Plan, events: &[Event], len: u64) -> Option<Event>
-    ensures { result ≡ slice_get events.now (pick plan.now len (length events.now)) }
-{
-    if events.is_empty() {
-        return None;
-    }
-    let at = plan.pick(len, events.len() as u64);
-    events.get(at as usize).copied()
 }

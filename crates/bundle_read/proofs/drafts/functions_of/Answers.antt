@@ -1,5 +1,4 @@
-use Rattle.std.proofs.Common.{◌∙◌, ◌≡◌, sym, ap, subst}
-use Rattle.std.specs.Map.{keys_of}
+use Rattle.std.proofs.Common.{◌∙◌}
 use Rattle.unum_json.proofs.Rising.{rising_front}
 use Rattle.bundle_read.specs.Drafts.{function_of}
 use Rattle.bundle_read.proofs.Values.{Goes, goes_first, goes_on, names}

@@ -1,4 +1,4 @@
-use Rattle.std.proofs.Common.{◌≡◌, ◌<◌, ◌+◌, ◌-◌, ◌/◌, length, ◌∙◌, sym, ap, arith, nat_cmp, List, ℕ, Less, Equal, Greater, get_or}
+use Rattle.std.proofs.Common.{◌≡◌, ◌<◌, ◌+◌, ◌-◌, ◌/◌, length, ◌∙◌, sym, ap, arith, nat_cmp, Less, Equal, Greater, get_or}
 use Rattle.std.specs.Cmp.Lexicographic.{slice_cmp}
 use Rattle.bundle_read.proofs.Halving.{none_here, next, here}
 use Rattle.bundle_read.proofs.lookup.number_of.Goals as goal

@@ -1,4 +1,4 @@
-use Rattle.std.proofs.Common.{rules, Err, ◌++◌, flat_map, codes}
+use Rattle.std.proofs.Common.{rules, Err, ◌++◌, codes}
 use Rattle.bundle_read.specs.Bounds.{wild_if, wild_plan, wild_script, wild_twins}
 use Rattle.bundle_read.specs.Checked.{Checks}
 use Rattle.bundle_read.proofs.Steps.{front, later}

@@ -1,4 +1,4 @@
-use Rattle.std.proofs.Common.{rules, Err, ◌++◌, flat_map}
+use Rattle.std.proofs.Common.{rules, Err}
 use Rattle.bundle_read.specs.Bounds.{broken_names, lost_machines, lost_sessions}
 use Rattle.bundle_read.specs.Checked.{Checks}
 use Rattle.bundle_read.proofs.Steps.{front, later}

@@ -1,4 +1,4 @@
-use Rattle.std.proofs.Common.{rules, Err, ◌++◌, flat_map}
+use Rattle.std.proofs.Common.{rules, Err, ◌++◌}
 use Rattle.bundle_read.specs.Bounds.{broken_machines, broken_names, broken_numbers, broken_parts, broken_sizes}
 use Rattle.bundle_read.specs.Checked.{Checks}
 use Rattle.bundle_read.proofs.Steps.{front, later}

@@ -1,5 +1,5 @@
 use Rattle.std.proofs.Common.{◌∙◌, ◌++◌, ap, arith, string_bytes}
-use Rattle.unum_world.specs.Seen.{now}
+use Rattle.unum_world.specs.Pasts.{now}
 use Rattle.unum_cli.specs.Report.{lines, entry_line}
 use Rattle.unum_cli.proofs.Lines.{line_next, lines_done}
 use Rattle.unum_cli.proofs.session_report.push_entries.Goals as goal

@@ -1,6 +1,6 @@
 use Rattle.std.proofs.Common.{◌∙◌, ◌++◌, ap, arith, length, string_bytes}
 use Rattle.unum_world.specs.declared.opening.Opening.{Opening}
-use Rattle.unum_world.specs.Seen.{now}
+use Rattle.unum_world.specs.Pasts.{now}
 use Rattle.unum_cli.specs.Report.{lines, session_line}
 use Rattle.unum_cli.proofs.Lines.{line_next, lines_done}
 use Rattle.unum_cli.proofs.session_report.push_sessions.Goals as goal

@@ -1,5 +1,5 @@
 use Rattle.std.proofs.Common.{◌≡◌, ◌++◌, ◌-◌, string_bytes}
-use Rattle.unum_world.specs.Seen.{now}
+use Rattle.unum_world.specs.Pasts.{now}
 use Rattle.unum_cli.specs.Report.{lines, session_line}
 use Rattle.unum_cli.proofs.session_report.push_sessions.Given as goal
 

@@ -1,10 +1,13 @@
 use Rattle.std.proofs.Common.{◌≡◌, ◌+◌, drop}
-use Rattle.unum_world.specs.Sessions.{count_from, no_counts}
-use Rattle.unum_world.specs.Seen.{seen}
+use Rattle.world_plans.specs.Standings.{count_from, no_counts}
+use Rattle.unum_world.specs.Openings.{opening_as}
+use Rattle.unum_world.specs.Pasts.{world_of}
 use Rattle.unum_world.proofs.standings.count.Given as goal
 
-abbrev pub invariant-loop-k : goal.invariant-loop-k
-invariant-loop-k l = record {
-  counted : count_from (seen l.o l.now) l.k (drop l.k l.o.sessions) l.counts ≡ count_from (seen l.o l.now) 0 l.o.sessions no_counts;
-  many : l.counts.ended + l.counts.abandoned + l.counts.still_open ≡ l.k;
+abbrev pub invariant-loop-s : goal.invariant-loop-s
+invariant-loop-s l = record {
+  counted :
+      count_from (world_of l.o l.now) l.s (drop l.s (opening_as l.o).sessions) l.counts
+      ≡ count_from (world_of l.o l.now) 0 (opening_as l.o).sessions no_counts;
+  many : l.counts.ended + l.counts.abandoned + l.counts.still_open ≡ l.s;
 }

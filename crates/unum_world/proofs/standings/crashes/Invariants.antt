@@ -1,5 +1,5 @@
 use Rattle.std.proofs.Common.{◌≡◌, ◌+◌, ◌≤◌, drop}
-use Rattle.unum_world.specs.Sessions.{crashes_in}
+use Rattle.world_plans.specs.Standings.{crashes_in}
 use Rattle.unum_world.proofs.standings.crashes.Given as goal
 
 abbrev pub invariant-loop-e : goal.invariant-loop-e

@@ -1,46 +1,41 @@
-use Rattle.std.proofs.Common.{rules, ◌≡◌, ◌≤◌, sym, subst, ◌∙◌, None, length, arith}
-use Rattle.unum_world.specs.Chained.{IsDrained}
-use Rattle.unum_world.specs.Seen.{Past, seen, now, chosen_event, Bounded}
-use Rattle.unum_world.proofs.Bounds.{run_bounded}
-use Rattle.unum_world.proofs.PlainRuns.{run_plain}
-use Rattle.unum_world.proofs.Drained.{unchosen_drained}
+use Rattle.std.proofs.Common.{◌≡◌, sym, ap, ◌∙◌, subst, length, None, arith}
+use Rattle.world_plans.specs.Chooser as chooser
+use Rattle.unum_world.specs.Openings.{codes_of}
+use Rattle.unum_world.specs.Pasts.{Past, world_of, chosen_event, IsDrained, IsRun}
+use Rattle.unum_world.proofs.Choices.{unchosen_drained}
+use Rattle.unum_world.proofs.Standing.{holds_of, is_run, now_is, runs_on}
 use Rattle.unum_world.proofs.world.World.choose.Goals as goal
 
-pub allowed-requires-clause-plain : goal.allowed-requires-clause-plain
-allowed-requires-clause-plain c =
+pub choose_event-requires : goal.choose_event-requires
+choose_event-requires c =
     let a = c.self.inside in
-    let i = c.self.invariant in
-    run_plain a.opening a.limit a.history.items (seen a.opening a.moment) i.fits i.is_run
+    holds_of a.opening a.limit a.history.items _ a.moment c.self.invariant
 
-pub allowed-requires-clause-atts : goal.allowed-requires-clause-atts
-allowed-requires-clause-atts c =
+pub returns-clause-event : goal.returns-clause-event
+returns-clause-event c =
     let a = c.self.inside in
-    let i = c.self.invariant in
-    let s : length a.opening.sessions ≤ 1000 = i.fits.sessions in
-    let m : a.limit ≤ 10000000 = i.fits.limit in
-    let h : length a.history.items ≤ a.limit = i.within in
-    let b : Bounded 4294967294 (seen a.opening a.moment) = run_bounded a.opening a.history.items (seen a.opening a.moment) 4294967294 i.is_run (omega arith) in
-    let x : length a.moment.hub.queue.atts.items ≤ 4294967294 = b.atts in
-    omega arith
-
-pub allowed-requires-clause-states : goal.allowed-requires-clause-states
-allowed-requires-clause-states c =
-    let a = c.self.inside in
-    let i = c.self.invariant in
-    let s : length a.opening.sessions ≤ 1000 = i.fits.sessions in
-    let m : a.limit ≤ 10000000 = i.fits.limit in
-    let h : length a.history.items ≤ a.limit = i.within in
-    let b : Bounded 4294967294 (seen a.opening a.moment) = run_bounded a.opening a.history.items (seen a.opening a.moment) 4294967294 i.is_run (omega arith) in
-    let x : length a.moment.hub.queue.states.items ≤ 4294967294 = b.states in
-    omega arith
+    let w = world_of a.opening a.moment in
+    let p : Past = record { opening = a.opening; limit = a.limit; history = a.history.items } in
+    let n : c.len.result ≡ length a.history.items = omega (arith, c.len.ensures) in
+    let P : Past → Type 0 = λ z. c.choose_event.result ≡ chosen_event z in
+    subst P c.self.view_is
+    (c.choose_event.ensures ∙ ap (chooser.chosen_event a.opening.plan (codes_of a.opening) w) n
+    ∙ ap (λ w. chooser.chosen_event a.opening.plan (codes_of a.opening) w (length a.history.items)) (sym (now_is p w c.self.invariant.is_run)))
 
 pub returns-clause-drained : goal.returns-clause-drained
 returns-clause-drained c = λ q.
     let a = c.self.inside in
     let i = c.self.invariant in
+    let w = world_of a.opening a.moment in
     let p : Past = record { opening = a.opening; limit = a.limit; history = a.history.items } in
-    let n : c.picked-event.result ≡ None = cc in
-    let k : c.picked-event.result ≡ chosen_event c.args.self.now = search rules in
-    let P : Past → Type 0 = λ z. chosen_event z ≡ None in
-    let D : Past → Type 0 = λ z. IsDrained (now z) in
-    subst D c.self.view_is (unchosen_drained p a.limit (seen a.opening a.moment) i.fits i.is_run (subst P (sym c.self.view_is) (sym k ∙ n)))
+    let n : c.len.result ≡ length a.history.items = omega (arith, c.len.ensures) in
+    let e : chosen_event p ≡ None =
+    ap (λ w. chooser.chosen_event a.opening.plan (codes_of a.opening) w (length a.history.items)) (now_is p w i.is_run)
+    ∙ ap (chooser.chosen_event a.opening.plan (codes_of a.opening) w) (sym n) ∙ sym c.choose_event.ensures ∙ q in
+    subst IsDrained c.self.view_is (unchosen_drained p w i.is_run (runs_on a.opening a.history.items w i.valid i.is_run) e)
+
+pub returns-clause-happened : goal.returns-clause-happened
+returns-clause-happened c =
+    let a = c.self.inside in
+    let p : Past = record { opening = a.opening; limit = a.limit; history = a.history.items } in
+    subst IsRun c.self.view_is (is_run p (world_of a.opening a.moment) c.self.invariant.is_run)

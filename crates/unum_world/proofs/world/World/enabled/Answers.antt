@@ -1,9 +1,16 @@
-use Rattle.unum_world.specs.Seen.{seen}
-use Rattle.unum_world.proofs.PlainRuns.{run_plain}
+use Rattle.std.proofs.Common.{◌≡◌, sym, ap, ◌∙◌, subst}
+use Rattle.world_model.specs.AnyCode.World.{enabled}
+use Rattle.unum_world.specs.Openings.{codes_of}
+use Rattle.unum_world.specs.Pasts.{Past, world_of, is_enabled}
+use Rattle.unum_world.proofs.Standing.{holds_of, now_is}
 use Rattle.unum_world.proofs.world.World.enabled.Goals as goal
 
-pub may-requires : goal.may-requires
-may-requires c =
+pub returns : goal.returns
+returns c =
     let a = c.self.inside in
     let i = c.self.invariant in
-    run_plain a.opening a.limit a.history.items (seen a.opening a.moment) i.fits i.is_run
+    let p : Past = record { opening = a.opening; limit = a.limit; history = a.history.items } in
+    let P : Past → Type 0 = λ z. c.may.result ≡ is_enabled z c.args.event in
+    subst P c.self.view_is
+    (c.may.ensures a.opening (holds_of a.opening a.limit a.history.items _ a.moment i)
+    ∙ ap (λ w. enabled (codes_of a.opening) w c.args.event) (sym (now_is p (world_of a.opening a.moment) i.is_run)))

@@ -1,41 +1,26 @@
-use Rattle.std.proofs.Common.{rules, ◌≡◌, ◌≤◌, sym, subst, ap, true, Option, length, List, ◌++◌, ◌∷◌, [], arith, length-append}
-use Rattle.unum_world.specs.declared.queue.Event.{Event}
-use Rattle.unum_world.specs.Worlds.{World, enabled}
-use Rattle.unum_world.specs.Seen.{Past, is_enabled, seen, then_now}
-use Rattle.unum_world.proofs.Bounds.{run_bounded}
-use Rattle.unum_world.proofs.Choices.{run_step}
-use Rattle.unum_world.proofs.PlainRuns.{run_plain}
+use Rattle.std.proofs.Common.{rules, ◌≡◌, ◌<◌, sym, length, ◌++◌, [], ◌∷◌, arith}
+use Rattle.unum_world.specs.Pasts.{Past, world_of}
+use Rattle.unum_world.proofs.Standing.{holds_of, enabled_now, stands_on}
 use Rattle.unum_world.proofs.world.World.try_event.Goals as goal
 
-pub make-requires-clause-plain : goal.make-requires-clause-plain
-make-requires-clause-plain c =
+pub make-requires-clause-holds : goal.make-requires-clause-holds
+make-requires-clause-holds c =
     let a = c.self.inside in
-    let i = c.self.invariant in
-    run_plain a.opening a.limit a.history.items (seen a.opening a.moment) i.fits i.is_run
+    holds_of a.opening a.limit a.history.items _ a.moment c.self.invariant
 
-pub make-requires-clause-bounded : goal.make-requires-clause-bounded
-make-requires-clause-bounded c =
+pub make-requires-clause-on : goal.make-requires-clause-on
+make-requires-clause-on c =
     let a = c.self.inside in
-    let i = c.self.invariant in
-    let s : length a.opening.sessions ≤ 1000 = i.fits.sessions in
-    let m : a.limit ≤ 10000000 = i.fits.limit in
-    let h : length a.history.items ≤ a.limit = i.within in
-    run_bounded a.opening a.history.items (seen a.opening a.moment) 4294967294 i.is_run (omega arith)
+    let p : Past = record { opening = a.opening; limit = a.limit; history = a.history.items } in
+    enabled_now p c.args.self.now (world_of a.opening a.moment) c.args.event c.self.view_is c.self.invariant.is_run (sym c.if-not-enabled.ensures)
 
 pub invariant_of-self-2 : goal.invariant_of-self-2
 invariant_of-self-2 c =
     let a = c.self.inside in
-    let i = c.self.invariant in
-    let p : is_enabled c.args.self.now c.args.e ≡ true = sym c.if-not-enabled.ensures in
-    let P : Past → Type 0 = λ p. is_enabled p c.args.e ≡ true in
-    let q : is_enabled (record { opening = a.opening; limit = a.limit; history = a.history.items }) c.args.e ≡ true = subst P (sym c.self.view_is) p in
-    let Q : Option World → Type 0 = λ w. enabled (then_now a.opening w) c.args.e ≡ true in
-    let b : enabled (seen a.opening a.moment) c.args.e ≡ true = subst Q i.is_run q in
-    record {
-      is_run = run_step a.opening a.history.items c.push.new.self.items c.args.e (seen a.opening a.moment) (seen a.opening c.make.new.now) i.is_run b (search rules) (search rules);
-      fits = i.fits;
-      within =
-          let m : c.push.new.self.items ≡ a.history.items ++ c.args.e ∷ [] = search rules in
-          rw m (omega (arith, length-append a.history.items (c.args.e ∷ []), ap (λ (xs : List Event). length xs) c.as_slice.ensures.value));
-      reserved = omega (arith, c.push.ensures.capacity, c.push.ensures.lower_bound);
-    }
+    let p : Past = record { opening = a.opening; limit = a.limit; history = a.history.items } in
+    let more : c.push.new.self.items ≡ a.history.items ++ c.args.event ∷ [] = search rules in
+    let less : length a.history.items < a.limit = omega (arith, c.len-len.ensures, c.if-len-self.false) in
+    stands_on a.opening a.limit a.history.items _ a.moment c.make.new.now c.args.event c.push.new.self.items _ c.self.invariant
+    (enabled_now p c.args.self.now (world_of a.opening a.moment) c.args.event c.self.view_is c.self.invariant.is_run (sym c.if-not-enabled.ensures))
+    (search rules) c.make.ensures.kept more less
+    (omega (arith, c.push.ensures.capacity, c.push.ensures.lower_bound))

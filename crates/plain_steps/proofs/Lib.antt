@@ -1,4 +1,0 @@
-pub mod Picks
-pub mod Counts
-pub mod BeginLaw
-pub mod WalkLaw

@@ -1,4 +1,0 @@
-pub mod Views
-pub mod Kinds
-pub mod Finishing
-pub mod Stopping

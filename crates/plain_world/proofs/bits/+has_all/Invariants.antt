@@ -1,4 +1,0 @@
-use Rattle.plain_world.proofs.bits.+has_all.Given as goal
-
-abbrev pub decreases-has_all : goal.decreases-has_all
-decreases-has_all l = l.count
