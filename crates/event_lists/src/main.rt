@@ -14,7 +14,7 @@
 use std::alloc::Global;
 use std::io;
 use std::io::Print;
-use unum_cli::session_report::report;
+use session_report::report;
 use unum_cli::{open_bundle, read_bundle};
 use unum_world::{ApplyError, World};
 use world_types::Event;

@@ -12,7 +12,7 @@ use crate::fault::Fault;
 use crate::given::{Given, number, parted, split_word, tell, whole};
 use fn_table::{BuiltIns, FnKind, Functions};
 use std::alloc::Global;
-use unum_cli::session_report::report;
+use session_report::report;
 use unum_cli::{open_bundle, read_bundle};
 use unum_json::Json;
 use unum_world::{ApplyError, Opening, Planned, World};

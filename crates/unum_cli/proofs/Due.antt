@@ -1,5 +1,5 @@
 -- What is due for the words and the bytes, and what an answer to it shows.
-use Rattle.std.proofs.Common.{◌≡◌, ℕ, ◌<◌, ◌⊎◌, inl, inr, List, [], length, Option, Some, None, Err, Ok, Result, IfSome, refl, sym, ap, subst, ◌∙◌, length-append, arith}
+use Rattle.std.proofs.Common.{◌≡◌, ℕ, ◌<◌, ◌⊎◌, inl, inr, Bool, true, false, List, [], length, Option, Some, None, Err, Ok, Result, IfSome, refl, sym, ap, subst, ◌∙◌, length-append, arith}
 use Rattle.std.specs.Io.KnownBytes.{Keeps, Appends, IsAtEnd}
 use Rattle.unum_io.specs.Told.{TookFront}
 use Rattle.std.proofs.lemmas.Bool.{lt-ltb}
@@ -21,15 +21,16 @@ use Rattle.unum_cli.specs.declared.answer.Status.TheVariants.{Written, Refused, 
 use Rattle.unum_cli.specs.declared.commands.Command.{Command}
 use Rattle.unum_cli.specs.declared.commands.Command.TheVariants as command
 use Rattle.unum_cli.specs.declared.commands.BundleCommand.{BundleCommand}
-use Rattle.unum_cli.specs.declared.commands.BundleCommand.TheVariants.{Validate, Compile, Simulate}
+use Rattle.unum_cli.specs.declared.commands.BundleCommand.TheVariants.{Validate, Compile, Central, Simulate}
 use Rattle.unum_cli.specs.declared.taking.TakeError.{TakeError}
 use Rattle.unum_cli.specs.declared.taking.TakeError.TheVariants as take
+use Rattle.unum_cli.specs.Central.{all_fit, central_text}
 use Rattle.unum_cli.specs.FlatCode.{compiled_text, flat_text, JudgesFlat, JudgesBytes}
 use Rattle.unum_cli.specs.Refused.{refusal_text}
-use Rattle.unum_cli.specs.Report.{report}
+use Rattle.session_report.specs.Report.{report}
 use Rattle.unum_cli.specs.Valid.{valid_text}
 use Rattle.unum_cli.specs.Words.{simulation}
-use Rattle.unum_cli.specs.Tool.{due_bundle, Answers, AnswersRefusal, AnswersText, AnswersUntaken, AnswersUsage, AnswersWorld, EndsAfter, EndsRead, HoldsSound, Shows, Takes, TakesAll, TakesBytes, TakesFlat, AnswersFlat, AnswersJudged, IsSpent, IsWorldOf, Wrote, due_judged}
+use Rattle.unum_cli.specs.Tool.{due_bundle, text_due, Answers, AnswersPart, AnswersRefusal, AnswersText, AnswersUntaken, AnswersUsage, AnswersWorld, EndsAfter, EndsRead, HoldsSound, Shows, Takes, TakesAll, TakesBytes, TakesFlat, AnswersFlat, AnswersJudged, IsSpent, IsWorldOf, Wrote, due_judged}
 
 pub each_some : {T : Type 0} (o : Option T) (P : T → Type 0) → ((x : T) → o ≡ Some x → P x) → IfSome o P
 each_some None P h = tt
@@ -104,6 +105,21 @@ told_shows c text shown Spent desk old new h = absurd h
 pub flat_shows : (ir : Ir) → IsWellFormed ir → (status : Status) (desk : Desk) (old new : Option (List ℕ)) → AnswersText (flat_text ir) status desk old new → Shows (Some command.Ir) status desk old new
 flat_shows ir is status desk old new h = told_shows (Some command.Ir) (flat_text ir) (λ d o n e a. (e, (ir, is, a))) status desk old new h
 
+part_shows : (c : Option Command) (text : List ℕ) → ((desk : Desk) (old new : Option (List ℕ)) → desk ≡ Empty → Appends old new text → Shows c Spent desk old new)
+    → (status : Status) (desk : Desk) (old new : Option (List ℕ)) → AnswersPart text status desk old new → Shows c status desk old new
+part_shows c text shown Spent desk old new h = shown desk old new h.0 h.1
+part_shows c text shown WriteFault desk old new h = tt
+part_shows c text shown ReadFault desk old new h = h
+part_shows c text shown NoMemory desk old new h = h.1
+part_shows c text shown Written desk old new h = absurd h
+part_shows c text shown (Refused r) desk old new h = absurd h
+part_shows c text shown Usage desk old new h = absurd h
+
+central_shows : (limit : ℕ) (b : Accepted) → IsAccepted b → (all : Bool) → all_fit b limit ≡ all → (status : Status) (desk : Desk) (old new : Option (List ℕ)) → Answers (text_due all (central_text b limit)) status desk old new
+    → Shows (Some (command.Bundle (Central limit))) status desk old new
+central_shows limit b is true fit status desk old new h = told_shows (Some (command.Bundle (Central limit))) (central_text b limit) (λ d o n e a. (e, (b, is, fit, a))) status desk old new h
+central_shows limit b is false fit status desk old new h = part_shows (Some (command.Bundle (Central limit))) (central_text b limit) (λ d o n e a. (e, (b, is, fit, a))) status desk old new h
+
 world_shows : (o : Opening) (limit : ℕ) (status : Status) (desk : Desk) (old new : Option (List ℕ)) → AnswersWorld o limit status desk old new → Shows (Some (simulation limit)) status desk old new
 world_shows o limit Written Empty old new h = absurd h
 world_shows o limit Written (Open w) old new h = (h.0.limit_is, h.0.chosen, h.1, h.2)
@@ -118,6 +134,7 @@ world_shows o limit Usage desk old new h = absurd h
 pub bundle_shows : (c : BundleCommand) (b : Accepted) → IsAccepted b → (status : Status) (desk : Desk) (old new : Option (List ℕ)) → Answers (due_bundle c b) status desk old new → Shows (Some (command.Bundle c)) status desk old new
 bundle_shows Validate b is status desk old new h = told_shows (Some (command.Bundle Validate)) (valid_text b) (λ d o n e a. (e, (b, is, a))) status desk old new h
 bundle_shows Compile b is status desk old new h = told_shows (Some (command.Bundle Compile)) (compiled_text b) (λ d o n e a. (e, (b, is, a))) status desk old new h
+bundle_shows (Central limit) b is status desk old new h = central_shows limit b is (all_fit b limit) refl status desk old new h
 bundle_shows (Simulate limit) b is status desk old new h = world_shows (opening_of b) limit status desk old new h
 
 -- ---------------------------------------------------------------- the end of the source
@@ -167,6 +184,14 @@ untaken_text : (text : List ℕ) (status : Status) (desk : Desk) (old new : Opti
 untaken_text text status desk old new (inl e) d k = subst (λ s. AnswersText text s desk old new) (sym e) (d, k)
 untaken_text text status desk old new (inr e) d k = subst (λ s. AnswersText text s desk old new) (sym e) (d, k)
 
+untaken_part : (text : List ℕ) (status : Status) (desk : Desk) (old new : Option (List ℕ)) → (status ≡ ReadFault) ⊎ (status ≡ NoMemory) → desk ≡ Empty → Keeps old new → AnswersPart text status desk old new
+untaken_part text status desk old new (inl e) d k = subst (λ s. AnswersPart text s desk old new) (sym e) (d, k)
+untaken_part text status desk old new (inr e) d k = subst (λ s. AnswersPart text s desk old new) (sym e) (d, k)
+
+untaken_central : (all : Bool) (text : List ℕ) (status : Status) (desk : Desk) (old new : Option (List ℕ)) → (status ≡ ReadFault) ⊎ (status ≡ NoMemory) → desk ≡ Empty → Keeps old new → Answers (text_due all text) status desk old new
+untaken_central true text status desk old new s d k = untaken_text text status desk old new s d k
+untaken_central false text status desk old new s d k = untaken_part text status desk old new s d k
+
 untaken_world : (o : Opening) (limit : ℕ) (status : Status) (desk : Desk) (old new : Option (List ℕ)) → (status ≡ ReadFault) ⊎ (status ≡ NoMemory) → desk ≡ Empty → Keeps old new → AnswersWorld o limit status desk old new
 untaken_world o limit status desk old new (inl e) d k = subst (λ s. AnswersWorld o limit s desk old new) (sym e) (d, k)
 untaken_world o limit status desk old new (inr e) d k = subst (λ s. AnswersWorld o limit s desk old new) (sym e) (inl d, k)
@@ -175,6 +200,7 @@ untaken_judged : (c : BundleCommand) (due : Result Accepted Refusal) (status : S
 untaken_judged c (Err r) status desk old new s d k = untaken_due r status desk old new s d k
 untaken_judged Validate (Ok b) status desk old new s d k = untaken_text (valid_text b) status desk old new s d k
 untaken_judged Compile (Ok b) status desk old new s d k = untaken_text (compiled_text b) status desk old new s d k
+untaken_judged (Central limit) (Ok b) status desk old new s d k = untaken_central (all_fit b limit) (central_text b limit) status desk old new s d k
 untaken_judged (Simulate limit) (Ok b) status desk old new s d k = untaken_world (opening_of b) limit status desk old new s d k
 
 -- what is told of flat code that was judged is due

@@ -1,5 +1,6 @@
 pub mod Computed
 pub mod Due
 pub mod FlatJudged
-pub mod Lines
+pub mod Sessions
+pub mod Sums
 pub mod Worked

@@ -1,7 +1,7 @@
+pub mod Central
 pub mod Codes
 pub mod FlatCode
 pub mod Refused
-pub mod Report
 pub mod Shown
 pub mod Tool
 pub mod Valid

@@ -1,5 +1,5 @@
 -- What the top call answers, writes and leaves on the desk.
-use Rattle.std.specs.Prelude.{◌≡◌, ℕ, ◌<◌, ◌≤◌, ◌⊎◌, List, [], Vec, length, codes, Option, Some, None, Result, Ok, Err}
+use Rattle.std.specs.Prelude.{◌≡◌, ℕ, ◌<◌, ◌≤◌, ◌⊎◌, Bool, true, false, List, [], Vec, length, codes, Option, Some, None, Result, Ok, Err}
 use Rattle.std.specs.declared.alloc.Global.{Global}
 use Rattle.std.specs.Io.KnownBytes.{Keeps, Appends, IsAtEnd}
 use Rattle.unum_io.specs.Told.{TookFront}
@@ -18,18 +18,19 @@ use Rattle.unum_world.specs.Sound.{IsSound}
 use Rattle.unum_cli.specs.declared.commands.Command.{Command}
 use Rattle.unum_cli.specs.declared.commands.Command.TheVariants.{Bundle, Ir}
 use Rattle.unum_cli.specs.declared.commands.BundleCommand.{BundleCommand}
-use Rattle.unum_cli.specs.declared.commands.BundleCommand.TheVariants.{Validate, Compile, Simulate}
+use Rattle.unum_cli.specs.declared.commands.BundleCommand.TheVariants.{Validate, Compile, Central, Simulate}
 use Rattle.unum_cli.specs.declared.answer.Status.{Status}
 use Rattle.unum_cli.specs.declared.answer.Status.TheVariants.{Written, Refused, Usage, ReadFault, WriteFault, Spent, NoMemory}
 use Rattle.unum_cli.specs.declared.answer.Desk.{Desk}
 use Rattle.unum_cli.specs.declared.answer.Desk.TheVariants.{Empty, Open}
 use Rattle.unum_cli.specs.declared.taking.TakeError.{TakeError}
 use Rattle.unum_cli.specs.declared.taking.TakeError.TheVariants as take
+use Rattle.session_report.specs.Report.{report}
+use Rattle.unum_cli.specs.Central.{all_fit, central_text}
 use Rattle.unum_cli.specs.FlatCode.{compiled_text, flat_text, JudgesFlat}
 use Rattle.unum_cli.specs.Refused.{refusal_text}
 use Rattle.unum_cli.specs.Valid.{valid_text}
 use Rattle.unum_cli.specs.Words.{command}
-use Rattle.unum_cli.specs.Report.{report}
 
 abbrev pub usage_text : List ℕ
 usage_text = codes "usage: unum validate | compile | ir | central | simulate | run | make\n"
@@ -39,19 +40,26 @@ Bytes = Vec ℕ Global
 
 -- ---------------------------------------------------------------- what is due
 
--- what is due for some words and bytes: the usage line, a refusal, a text, the simulation of an opening to a limit, or what is
--- told of bytes as the text of flat code
+-- what is due for some words and bytes: the usage line, a refusal, a text, one that tells all that the limit left room for, the
+-- simulation of an opening to a limit, or what is told of bytes as the text of flat code
 pub data Due : Type 0 where
   Usage_due : Due
   Refusal_due : Refusal → Due
   Text_due : List ℕ → Due
+  Part_due : List ℕ → Due
   World_due : Opening → (limit : ℕ) → Due
   Flat_due : (bytes : List ℕ) → Due
+
+-- a text that tells all, or all that the limit left room for
+abbrev pub text_due : (all : Bool) → List ℕ → Due
+text_due true text = Text_due text
+text_due false text = Part_due text
 
 -- what a command is to do with a bundle
 abbrev pub due_bundle : BundleCommand → Accepted → Due
 due_bundle Validate b = Text_due (valid_text b)
 due_bundle Compile b = Text_due (compiled_text b)
+due_bundle (Central limit) b = text_due (all_fit b limit) (central_text b limit)
 due_bundle (Simulate limit) b = World_due (opening_of b) limit
 
 abbrev pub due_judged : BundleCommand → Result Accepted Refusal → Due
@@ -114,6 +122,14 @@ AnswersText text ReadFault desk old new = (desk ≡ Empty) × Keeps old new
 AnswersText text NoMemory desk old new = (desk ≡ Empty) × Keeps old new
 AnswersText text _ desk old new = ⊥
 
+-- the text is written, of which the limit was spent, and nothing is on the desk
+abbrev pub AnswersPart : List ℕ → Status → Desk → (old new : Option (List ℕ)) → Type 0
+AnswersPart text Spent desk old new = (desk ≡ Empty) × Appends old new text
+AnswersPart text WriteFault desk old new = (desk ≡ Empty) × TookFront old new text
+AnswersPart text ReadFault desk old new = (desk ≡ Empty) × Keeps old new
+AnswersPart text NoMemory desk old new = (desk ≡ Empty) × Keeps old new
+AnswersPart text _ desk old new = ⊥
+
 -- the world is on the desk, drained or at its limit, and its report is written
 abbrev pub AnswersWorld : Opening → (limit : ℕ) → Status → Desk → (old new : Option (List ℕ)) → Type 0
 AnswersWorld o limit Written desk old new = OnDesk desk (λ p. IsWorldOf o limit p × IsDrained p × Appends old new (report p))
@@ -139,6 +155,7 @@ abbrev pub Answers : Due → Status → Desk → (old new : Option (List ℕ)) �
 Answers Usage_due status desk old new = AnswersUsage status desk old new
 Answers (Refusal_due r) status desk old new = AnswersRefusal r status desk old new
 Answers (Text_due text) status desk old new = AnswersText text status desk old new
+Answers (Part_due text) status desk old new = AnswersPart text status desk old new
 Answers (World_due o limit) status desk old new = AnswersWorld o limit status desk old new
 Answers (Flat_due bytes) status desk old new = AnswersFlat bytes status desk old new
 
@@ -148,6 +165,8 @@ Answers (Flat_due bytes) status desk old new = AnswersFlat bytes status desk old
 abbrev pub ShowsDone : Option Command → Status → Desk → (old new : Option (List ℕ)) → Type 0
 ShowsDone (Some (Bundle Validate)) Written desk old new = (desk ≡ Empty) × ((b : Accepted) × IsAccepted b × Appends old new (valid_text b))
 ShowsDone (Some (Bundle Compile)) Written desk old new = (desk ≡ Empty) × ((b : Accepted) × IsAccepted b × Appends old new (compiled_text b))
+ShowsDone (Some (Bundle (Central limit))) Written desk old new = (desk ≡ Empty) × ((b : Accepted) × IsAccepted b × (all_fit b limit ≡ true) × Appends old new (central_text b limit))
+ShowsDone (Some (Bundle (Central limit))) Spent desk old new = (desk ≡ Empty) × ((b : Accepted) × IsAccepted b × (all_fit b limit ≡ false) × Appends old new (central_text b limit))
 ShowsDone (Some Ir) Written desk old new = (desk ≡ Empty) × ((ir : FlatIr) × IsWellFormed ir × Appends old new (flat_text ir))
 ShowsDone (Some (Bundle (Simulate limit))) Written desk old new = OnDesk desk (λ p. (p.limit ≡ limit) × IsChosen p × IsDrained p × Appends old new (report p))
 ShowsDone (Some (Bundle (Simulate limit))) Spent desk old new = OnDesk desk (λ p. (p.limit ≡ limit) × IsChosen p × IsSpent p × Appends old new (report p))

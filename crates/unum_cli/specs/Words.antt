@@ -3,7 +3,7 @@ use Rattle.std.specs.Prelude.{ℕ, ◌+◌, ◌-◌, ◌*◌, ◌≤◌, ◌&&�
 use Rattle.std.specs.Str.{bytes_eq}
 use Rattle.unum_cli.specs.declared.commands.Command.{Command}
 use Rattle.unum_cli.specs.declared.commands.Command.TheVariants.{Bundle, Ir}
-use Rattle.unum_cli.specs.declared.commands.BundleCommand.TheVariants.{Validate, Compile, Simulate}
+use Rattle.unum_cli.specs.declared.commands.BundleCommand.TheVariants.{Validate, Compile, Central, Simulate}
 
 abbrev pub Word : Type 0
 Word = List ℕ
@@ -50,6 +50,10 @@ without_options c (w ∷ ws) = None
 abbrev pub with_limit : (ℕ → Command) → List Word → Option Command
 with_limit c ws = option_map c (limit_in ws)
 
+-- the sequential runs of a bundle's sessions, to a limit
+abbrev pub central : ℕ → Command
+central limit = Bundle (Central limit)
+
 -- the simulation of a bundle, to a limit
 abbrev pub simulation : ℕ → Command
 simulation limit = Bundle (Simulate limit)
@@ -60,6 +64,7 @@ commands =
     record { word = codes "validate"; with_options = without_options (Bundle Validate) }
     ∷ record { word = codes "compile"; with_options = without_options (Bundle Compile) }
     ∷ record { word = codes "ir"; with_options = without_options Ir }
+    ∷ record { word = codes "central"; with_options = with_limit central }
     ∷ record { word = codes "simulate"; with_options = with_limit simulation } ∷ []
 
 abbrev pub command_in : List Row → Word → List Word → Option Command
@@ -73,5 +78,6 @@ command (w ∷ ws) = command_in commands w ws
 
 -- a limit is at most 10,000,000
 abbrev pub IsLimited : Command → Type 0
+IsLimited (Bundle (Central limit)) = limit ≤ 10000000
 IsLimited (Bundle (Simulate limit)) = limit ≤ 10000000
 IsLimited _ = Unit {0}

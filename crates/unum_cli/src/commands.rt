@@ -7,6 +7,8 @@ pub enum BundleCommand {
     Validate,
     /// Prints the flat code of each of its machines.
     Compile,
+    /// Tells how each of its sessions ends by the sequential run, for at most so many visits.
+    Central { limit: u64 },
     /// Runs its world by its plan, for at most so many events.
     Simulate { limit: u64 },
 }

@@ -7,13 +7,13 @@ ghost use Rattle.unum_cli.specs.FlatCode.{compiled_line, compiled_text, flat_tex
 ghost use Rattle.unum_cli.specs.Tool.{TakesFlat};
 
 use crate::refusals::push_quoted;
-use crate::session_report::push_number;
 use crate::taking::TakeError;
 use asl_read::LRule;
 use bundle_read::{Bundle, Refusal, RuleCode, open_bundle};
 use continuation_gen::Compiled;
 use ir_text::{IrError, print, read as read_ir};
 use serde_json::Value;
+use session_report::push_number;
 use std::alloc::Global;
 use unum_ir::Ir;
 use unum_json::{JsonError, NoMemory, Text, read};

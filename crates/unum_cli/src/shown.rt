@@ -1,12 +1,13 @@
-//! The bounds of the limit, plans, how sessions stand, and the lines of a report, by examples.
+//! Words, plans, and how sessions stand, by examples.
 
-ghost use Rattle.unum_cli.specs.Shown.{FailureText, LimitBounds, LimitDigits, Lines, TotalsLine, WholeReport};
+ghost use Rattle.unum_cli.specs.Shown.{CentralWords, LimitBounds, LimitDigits};
 ghost use Rattle.unum_cli.specs.Worked.{Abandons, CrashesAndMarks, CrashesByRate, CrashesInTime, Draws, Ends, ListsFirst, Picks, StaysOpen, TwinsByRate};
 
-/// Which words give which limit.
+/// Which words are which command, with which limit.
 pub fn worked_words()
     ensures bounds { LimitBounds }
     ensures digits { LimitDigits }
+    ensures central { CentralWords }
 {}
 
 /// What some plans draw, and when an attempt crashes by one.
@@ -25,12 +26,4 @@ pub fn worked_standings()
     ensures stays_open { StaysOpen }
     ensures ended { Ends }
     ensures counted { CrashesAndMarks }
-{}
-
-/// What the lines of a report are, and a whole one.
-pub fn worked_report()
-    ensures failure { FailureText }
-    ensures lines { Lines }
-    ensures totals { TotalsLine }
-    ensures whole { WholeReport }
 {}

@@ -6,9 +6,9 @@ ghost use Rattle.asl_model.specs.Tree.{tree_of};
 ghost use Rattle.asl_model.specs.Valid.{broken};
 ghost use Rattle.unum_cli.specs.Valid.{states_in, valid_text};
 
-use crate::session_report::push_number;
 use asl_model::{Machine, count_states, valid};
 use bundle_read::Bundle;
+use session_report::push_number;
 use std::alloc::Global;
 use unum_json::{NoMemory, Text};
 

@@ -1,7 +1,7 @@
 //! The words of the command line.
 
 ghost use Rattle.std.specs.Prelude.{◌≡◌, ◌≤◌, ◌<◌, ◌^◌, ◌*◌, length, option_map, IfSome};
-ghost use Rattle.unum_cli.specs.Words.{number_from, limit_of, limit_in, command, simulation, with_limit, without_options, IsLimited};
+ghost use Rattle.unum_cli.specs.Words.{number_from, limit_of, limit_in, command, central, simulation, with_limit, without_options, IsLimited};
 
 use crate::commands::{BundleCommand, Command};
 use unum_json::{Items, Text};
@@ -73,6 +73,17 @@ fn without_options(command: Command, options: &[Text]) -> Option<Command>
     }
 }
 
+/// `central` with its limit.
+fn central(words: &[Text]) -> Option<Command>
+    ensures value { result ≡ with_limit central words.now }
+    ensures limited { IfSome result IsLimited }
+{
+    match limit_in(words) {
+        Some(limit) => Some(Command::Bundle(BundleCommand::Central { limit })),
+        None => None,
+    }
+}
+
 /// `simulate` with its limit.
 fn simulate(words: &[Text]) -> Option<Command>
     ensures value { result ≡ with_limit simulation words.now }
@@ -99,6 +110,8 @@ pub fn command(words: &Items<Text>) -> Option<Command>
                 without_options(Command::Bundle(BundleCommand::Compile), options)
             } else if word.as_bytes() == b"ir".as_slice() {
                 without_options(Command::Ir, options)
+            } else if word.as_bytes() == b"central".as_slice() {
+                central(options)
             } else if word.as_bytes() == b"simulate".as_slice() {
                 simulate(options)
             } else {

@@ -1,6 +1,6 @@
 use Rattle.std.proofs.Common.{◌+◌, ◌∙◌, ap}
 use Rattle.unum_cli.specs.Valid.{states_in}
-use Rattle.unum_cli.proofs.Lines.{sum_next}
+use Rattle.unum_cli.proofs.Sums.{sum_next}
 use Rattle.unum_cli.proofs.validate.states_of.Goals as goal
 
 pub loop-machine-preserved : goal.loop-machine-preserved

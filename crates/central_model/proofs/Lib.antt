@@ -1,0 +1,11 @@
+pub mod Picks
+pub mod Counts
+pub mod BeginLaw
+pub mod Fronts
+pub mod Halving
+pub mod Branches
+pub mod Steps
+pub mod Sequences
+pub mod Going
+pub mod Fitting
+pub mod Telling

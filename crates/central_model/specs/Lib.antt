@@ -1,0 +1,10 @@
+pub mod Views
+pub mod Kinds
+pub mod Finishing
+pub mod Places
+pub mod Told
+pub mod Asking
+pub mod Fits
+pub mod Gathering
+pub mod Walked
+pub mod Laws

@@ -1,7 +1,0 @@
-use Rattle.std.proofs.Common.{◌≡◌, ◌++◌, ◌-◌, string_bytes}
-use Rattle.unum_world.specs.Pasts.{now}
-use Rattle.unum_cli.specs.Report.{lines, session_line}
-use Rattle.unum_cli.proofs.session_report.push_sessions.Given as goal
-
-abbrev pub invariant-loop-k : goal.invariant-loop-k
-invariant-loop-k l = string_bytes l.out ++ lines (session_line (now l.world)) l.k (l.count - l.k) ≡ string_bytes l.fn.out ++ lines (session_line (now l.world)) 0 l.count

@@ -1,5 +1,0 @@
-use Rattle.unum_cli.proofs.Computed.{failure_text, lines_are, totals_line, whole_report}
-use Rattle.unum_cli.proofs.shown.worked_report.Goals as goal
-
-pub returns : goal.returns
-returns c = record { failure = failure_text; lines = lines_are; totals = totals_line; whole = whole_report }
