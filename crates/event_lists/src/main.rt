@@ -11,10 +11,10 @@
 //! GiveUp) and a number, and where it is to be made several times `*` and how often.
 #![tactic(auto)]
 
+use session_report::report;
 use std::alloc::Global;
 use std::io;
 use std::io::Print;
-use session_report::report;
 use unum_cli::{open_bundle, read_bundle};
 use unum_world::{ApplyError, World};
 use world_types::Event;
