@@ -1,6 +1,8 @@
 pub mod Acceptance
 pub mod Compiling
 pub mod Fitting
+pub mod GeneratedLaws
+pub mod GeneratedTree
 pub mod Halving
 pub mod PlanRises
 pub mod Somewhere

@@ -4,5 +4,6 @@ pub mod Called
 pub mod Checked
 pub mod Drafts
 pub mod Faults
+pub mod Generated
 pub mod Judged
 pub mod Parts

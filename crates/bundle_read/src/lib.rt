@@ -6,6 +6,7 @@ mod bundle;
 mod calls;
 mod draft;
 mod drafts;
+mod generating;
 mod kinds;
 mod lookup;
 mod parts;
@@ -16,5 +17,6 @@ mod refusal;
 mod validity;
 
 pub use bundle::{Bundle, open_bundle};
+pub use generating::generate;
 pub use read::read_bundle;
 pub use refusal::{BRule, BrokenPair, BundleError, Refusal, RuleCode};

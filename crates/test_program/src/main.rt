@@ -16,7 +16,9 @@
 //! - `flat STATE HOP RAW USED ANSWER`: where the flat code of the machine in `machine` stops after that answer (STATE is `-` for the
 //!   Enter); `walk NODE HOP VALUE`: where it stops from a node on;
 //! - `joined ANSWER | ANSWER ..`: what the branches of its fan come to;
-//! - `code RAW`: what its functions are, and the fan's first inputs.
+//! - `code RAW`: what its functions are, and the fan's first inputs;
+//! - `given RAW ANSWER | ANSWER ..`: its central run on these answers of the states that its own scope enters, from the second on (`-`
+//!   for none).
 //!
 //! An ANSWER is `ok VALUE` or `fail ERROR CAUSE`. Lines that begin with `#` are printed as they are.
 #![tactic(auto)]
@@ -28,6 +30,7 @@ mod given;
 mod machine;
 mod parts;
 mod plans;
+mod runs;
 mod worlds;
 
 use calls::{prefixes, tool_case};
@@ -35,6 +38,7 @@ use fault::Fault;
 use flat::code;
 use given::{Given, split_word};
 use plans::plan;
+use runs::given_answers;
 use std::alloc::Global;
 use std::io;
 use worlds::{settled, world};
@@ -61,6 +65,7 @@ fn run(alloc: Global, given: &Given, out: &mut String, line: &str) -> Result<(),
         "settled" => settled(alloc, out, given, rest),
         "plan" => plan(alloc, out, given.bytes(), rest),
         "flat" | "walk" | "code" | "joined" => code(alloc, out, word, rest),
+        "given" => given_answers(alloc, out, rest),
         "#" => Ok(()),
         _ => Err(Fault::NotRead),
     }

@@ -30,7 +30,7 @@ use Rattle.unum_cli.specs.Refused.{refusal_text}
 use Rattle.session_report.specs.Report.{report}
 use Rattle.unum_cli.specs.Valid.{valid_text}
 use Rattle.unum_cli.specs.Words.{simulation}
-use Rattle.unum_cli.specs.Tool.{due_bundle, text_due, Answers, AnswersPart, AnswersRefusal, AnswersText, AnswersUntaken, AnswersUsage, AnswersWorld, EndsAfter, EndsRead, HoldsSound, Shows, Takes, TakesAll, TakesBytes, TakesFlat, AnswersFlat, AnswersJudged, IsSpent, IsWorldOf, Wrote, due_judged}
+use Rattle.unum_cli.specs.Tool.{due_bundle, due_words, made_opening, made_text, text_due, Answers, AnswersPart, AnswersRefusal, AnswersText, AnswersUntaken, AnswersUsage, AnswersWorld, EndsAfter, EndsRead, HoldsSound, Shows, Takes, TakesAll, TakesBytes, TakesFlat, AnswersFlat, AnswersJudged, IsSpent, IsWorldOf, Wrote, due_judged}
 
 pub each_some : {T : Type 0} (o : Option T) (P : T → Type 0) → ((x : T) → o ≡ Some x → P x) → IfSome o P
 each_some None P h = tt
@@ -120,7 +120,7 @@ central_shows : (limit : ℕ) (b : Accepted) → IsAccepted b → (all : Bool) �
 central_shows limit b is true fit status desk old new h = told_shows (Some (command.Bundle (Central limit))) (central_text b limit) (λ d o n e a. (e, (b, is, fit, a))) status desk old new h
 central_shows limit b is false fit status desk old new h = part_shows (Some (command.Bundle (Central limit))) (central_text b limit) (λ d o n e a. (e, (b, is, fit, a))) status desk old new h
 
-world_shows : (o : Opening) (limit : ℕ) (status : Status) (desk : Desk) (old new : Option (List ℕ)) → AnswersWorld o limit status desk old new → Shows (Some (simulation limit)) status desk old new
+world_shows : (o : Opening) (limit : ℕ) (status : Status) (desk : Desk) (old new : Option (List ℕ)) → AnswersWorld report o limit status desk old new → Shows (Some (simulation limit)) status desk old new
 world_shows o limit Written Empty old new h = absurd h
 world_shows o limit Written (Open w) old new h = (h.0.limit_is, h.0.chosen, h.1, h.2)
 world_shows o limit Spent Empty old new h = absurd h
@@ -130,6 +130,21 @@ world_shows o limit ReadFault desk old new h = h
 world_shows o limit NoMemory desk old new h = h.1
 world_shows o limit (Refused r) desk old new h = absurd h
 world_shows o limit Usage desk old new h = absurd h
+
+pub made_shows : (n : ℕ) (status : Status) (desk : Desk) (old new : Option (List ℕ)) → AnswersWorld (made_text n) (made_opening n) 1000000 status desk old new → Shows (Some (command.Make n)) status desk old new
+made_shows n Written desk old new h = h
+made_shows n Spent desk old new h = h
+made_shows n WriteFault desk old new h = tt
+made_shows n ReadFault desk old new h = h
+made_shows n NoMemory desk old new h = h.1
+made_shows n (Refused r) desk old new h = absurd h
+made_shows n Usage desk old new h = absurd h
+
+-- whatever the bytes are
+pub made_due : (n : ℕ) (left : Option (List ℕ)) (status : Status) (desk : Desk) (old new : Option (List ℕ)) → AnswersWorld (made_text n) (made_opening n) 1000000 status desk old new
+    → IfSome left (λ bytes. Answers (due_words (Some (command.Make n)) bytes) status desk old new)
+made_due n None status desk old new h = tt
+made_due n (Some bytes) status desk old new h = h
 
 pub bundle_shows : (c : BundleCommand) (b : Accepted) → IsAccepted b → (status : Status) (desk : Desk) (old new : Option (List ℕ)) → Answers (due_bundle c b) status desk old new → Shows (Some (command.Bundle c)) status desk old new
 bundle_shows Validate b is status desk old new h = told_shows (Some (command.Bundle Validate)) (valid_text b) (λ d o n e a. (e, (b, is, a))) status desk old new h
@@ -192,16 +207,16 @@ untaken_central : (all : Bool) (text : List ℕ) (status : Status) (desk : Desk)
 untaken_central true text status desk old new s d k = untaken_text text status desk old new s d k
 untaken_central false text status desk old new s d k = untaken_part text status desk old new s d k
 
-untaken_world : (o : Opening) (limit : ℕ) (status : Status) (desk : Desk) (old new : Option (List ℕ)) → (status ≡ ReadFault) ⊎ (status ≡ NoMemory) → desk ≡ Empty → Keeps old new → AnswersWorld o limit status desk old new
-untaken_world o limit status desk old new (inl e) d k = subst (λ s. AnswersWorld o limit s desk old new) (sym e) (d, k)
-untaken_world o limit status desk old new (inr e) d k = subst (λ s. AnswersWorld o limit s desk old new) (sym e) (inl d, k)
+untaken_world : (told : Past → List ℕ) (o : Opening) (limit : ℕ) (status : Status) (desk : Desk) (old new : Option (List ℕ)) → (status ≡ ReadFault) ⊎ (status ≡ NoMemory) → desk ≡ Empty → Keeps old new → AnswersWorld told o limit status desk old new
+untaken_world told o limit status desk old new (inl e) d k = subst (λ s. AnswersWorld told o limit s desk old new) (sym e) (d, k)
+untaken_world told o limit status desk old new (inr e) d k = subst (λ s. AnswersWorld told o limit s desk old new) (sym e) (inl d, k)
 
 untaken_judged : (c : BundleCommand) (due : Result Accepted Refusal) (status : Status) (desk : Desk) (old new : Option (List ℕ)) → (status ≡ ReadFault) ⊎ (status ≡ NoMemory) → desk ≡ Empty → Keeps old new → Answers (due_judged c due) status desk old new
 untaken_judged c (Err r) status desk old new s d k = untaken_due r status desk old new s d k
 untaken_judged Validate (Ok b) status desk old new s d k = untaken_text (valid_text b) status desk old new s d k
 untaken_judged Compile (Ok b) status desk old new s d k = untaken_text (compiled_text b) status desk old new s d k
 untaken_judged (Central limit) (Ok b) status desk old new s d k = untaken_central (all_fit b limit) (central_text b limit) status desk old new s d k
-untaken_judged (Simulate limit) (Ok b) status desk old new s d k = untaken_world (opening_of b) limit status desk old new s d k
+untaken_judged (Simulate limit) (Ok b) status desk old new s d k = untaken_world report (opening_of b) limit status desk old new s d k
 
 -- what is told of flat code that was judged is due
 pub judged_due : (made : Result Ir Refusal) (bytes : List ℕ) (status : Status) (desk : Desk) (old new : Option (List ℕ)) → JudgesFlat made bytes → AnswersJudged made status desk old new → AnswersFlat bytes status desk old new
@@ -239,23 +254,23 @@ untaken_ends A take.NoMemory status desk old new left h t = subst (λ s. EndsRea
 
 -- ---------------------------------------------------------------- a world that has settled
 
-module _ (o : Opening) (limit : ℕ) (p : Past) (result : Status) (desk : Desk) (old new : Option (List ℕ)) (text : List ℕ) (world : IsWorldOf o limit p)
-    (laid : desk ≡ Open p) (is_report : text ≡ report p) where
-  failed : IsDrained p ⊎ IsSpent p → (result ≡ WriteFault) × TookFront old new text → AnswersWorld o limit result desk old new
+module _ (told : Past → List ℕ) (o : Opening) (limit : ℕ) (p : Past) (result : Status) (desk : Desk) (old new : Option (List ℕ)) (text : List ℕ) (world : IsWorldOf o limit p)
+    (laid : desk ≡ Open p) (is_told : text ≡ told p) where
+  failed : IsDrained p ⊎ IsSpent p → (result ≡ WriteFault) × TookFront old new text → AnswersWorld told o limit result desk old new
   failed why h =
-      subst (λ z. AnswersWorld o limit z desk old new) (sym h.0)
-      (subst (λ z. AnswersWorld o limit WriteFault z old new) (sym laid) (world, why, subst (TookFront old new) is_report h.1))
+      subst (λ z. AnswersWorld told o limit z desk old new) (sym h.0)
+      (subst (λ z. AnswersWorld told o limit WriteFault z old new) (sym laid) (world, why, subst (TookFront old new) is_told h.1))
 
-  -- no event may happen there, and its report is written
-  pub drained_told : IsDrained p → Wrote old new text Written result → AnswersWorld o limit result desk old new
+  -- no event may happen there, and it is told
+  pub drained_told : IsDrained p → Wrote old new text Written result → AnswersWorld told o limit result desk old new
   drained_told drained (inl h) =
-      subst (λ z. AnswersWorld o limit z desk old new) (sym h.0)
-      (subst (λ z. AnswersWorld o limit Written z old new) (sym laid) (world, drained, subst (Appends old new) is_report h.1))
+      subst (λ z. AnswersWorld told o limit z desk old new) (sym h.0)
+      (subst (λ z. AnswersWorld told o limit Written z old new) (sym laid) (world, drained, subst (Appends old new) is_told h.1))
   drained_told drained (inr h) = failed (inl drained) h
 
-  -- its history is full, and its report is written
-  pub spent_told : IsSpent p → Wrote old new text Spent result → AnswersWorld o limit result desk old new
+  -- its history is full, and it is told
+  pub spent_told : IsSpent p → Wrote old new text Spent result → AnswersWorld told o limit result desk old new
   spent_told spent (inl h) =
-      subst (λ z. AnswersWorld o limit z desk old new) (sym h.0)
-      (subst (λ z. AnswersWorld o limit Spent z old new) (sym laid) (world, spent, subst (Appends old new) is_report h.1))
+      subst (λ z. AnswersWorld told o limit z desk old new) (sym h.0)
+      (subst (λ z. AnswersWorld told o limit Spent z old new) (sym laid) (world, spent, subst (Appends old new) is_told h.1))
   spent_told spent (inr h) = failed (inr spent) h

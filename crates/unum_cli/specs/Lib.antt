@@ -3,6 +3,7 @@ pub mod Codes
 pub mod FlatCode
 pub mod Refused
 pub mod Shown
+pub mod Telling
 pub mod Tool
 pub mod Valid
 pub mod Words

@@ -1,5 +1,6 @@
 -- Words and what command they are, by examples.
 use Rattle.std.specs.Prelude.{◌≡◌, ℕ, List, [], ◌∷◌, ◌++◌, Some, None, codes}
+use Rattle.unum_cli.specs.declared.commands.Command.TheVariants.{Make}
 use Rattle.unum_cli.specs.Words.{command, central, simulation}
 
 abbrev pub spaced : List ℕ → List (List ℕ)
@@ -27,3 +28,10 @@ abbrev pub CentralWords : Type 0
 CentralWords =
     (command (codes "central" ∷ []) ≡ Some (central 1000000)) × (command (codes "central" ∷ codes "--limit" ∷ codes "7" ∷ []) ≡ Some (central 7))
     × (command (codes "central" ∷ codes "--limit=0" ∷ []) ≡ None) × (command (codes "central" ∷ codes "7" ∷ []) ≡ None)
+
+-- 1 to 1,000 sessions
+abbrev pub MakeWords : Type 0
+MakeWords =
+    (command (codes "make" ∷ codes "1" ∷ []) ≡ Some (Make 1)) × (command (codes "make" ∷ codes "1000" ∷ []) ≡ Some (Make 1000)) × (command (codes "make" ∷ codes "00000007" ∷ []) ≡ Some (Make 7))
+    × (command (codes "make" ∷ []) ≡ None) × (command (codes "make" ∷ codes "0" ∷ []) ≡ None) × (command (codes "make" ∷ codes "1001" ∷ []) ≡ None)
+    × (command (codes "make" ∷ codes "--limit=7" ∷ []) ≡ None)

@@ -1,5 +1,5 @@
 -- What the top call answers, writes and leaves on the desk.
-use Rattle.std.specs.Prelude.{◌≡◌, ℕ, ◌<◌, ◌≤◌, ◌⊎◌, Bool, true, false, List, [], Vec, length, codes, Option, Some, None, Result, Ok, Err}
+use Rattle.std.specs.Prelude.{◌≡◌, ℕ, ◌<◌, ◌≤◌, ◌⊎◌, Bool, true, false, List, [], Vec, ◌++◌, length, codes, decimal, Option, Some, None, Result, Ok, Err}
 use Rattle.std.specs.declared.alloc.Global.{Global}
 use Rattle.std.specs.Io.KnownBytes.{Keeps, Appends, IsAtEnd}
 use Rattle.unum_io.specs.Told.{TookFront}
@@ -7,6 +7,7 @@ use Rattle.asl_read.specs.declared.fault.LRule.TheVariants.{L0}
 use Rattle.unum_ir.specs.declared.ir.Ir.{Ir as FlatIr}
 use Rattle.unum_ir.specs.WellFormed.{IsWellFormed}
 use Rattle.bundle_read.specs.Accepted.{Accepted, IsAccepted, opening_of}
+use Rattle.bundle_read.specs.Generated.{generated}
 use Rattle.bundle_read.specs.Judged.{judged}
 use Rattle.bundle_read.specs.declared.refusal.RuleCode.TheVariants.{Reading}
 use Rattle.bundle_read.specs.declared.refusal.Refusal.{Refusal}
@@ -16,7 +17,7 @@ use Rattle.unum_world.specs.Pasts.{Past, IsChosen, IsDrained, IsFull}
 use Rattle.unum_world.specs.Answers.{IsEnabledSome}
 use Rattle.unum_world.specs.Sound.{IsSound}
 use Rattle.unum_cli.specs.declared.commands.Command.{Command}
-use Rattle.unum_cli.specs.declared.commands.Command.TheVariants.{Bundle, Ir}
+use Rattle.unum_cli.specs.declared.commands.Command.TheVariants.{Bundle, Ir, Make}
 use Rattle.unum_cli.specs.declared.commands.BundleCommand.{BundleCommand}
 use Rattle.unum_cli.specs.declared.commands.BundleCommand.TheVariants.{Validate, Compile, Central, Simulate}
 use Rattle.unum_cli.specs.declared.answer.Status.{Status}
@@ -25,7 +26,7 @@ use Rattle.unum_cli.specs.declared.answer.Desk.{Desk}
 use Rattle.unum_cli.specs.declared.answer.Desk.TheVariants.{Empty, Open}
 use Rattle.unum_cli.specs.declared.taking.TakeError.{TakeError}
 use Rattle.unum_cli.specs.declared.taking.TakeError.TheVariants as take
-use Rattle.session_report.specs.Report.{report}
+use Rattle.session_report.specs.Report.{report, totals_line}
 use Rattle.unum_cli.specs.Central.{all_fit, central_text}
 use Rattle.unum_cli.specs.FlatCode.{compiled_text, flat_text, JudgesFlat}
 use Rattle.unum_cli.specs.Refused.{refusal_text}
@@ -41,13 +42,13 @@ Bytes = Vec ℕ Global
 -- ---------------------------------------------------------------- what is due
 
 -- what is due for some words and bytes: the usage line, a refusal, a text, one that tells all that the limit left room for, the
--- simulation of an opening to a limit, or what is told of bytes as the text of flat code
+-- simulation of an opening to a limit and the text of its world, or what is told of bytes as the text of flat code
 pub data Due : Type 0 where
   Usage_due : Due
   Refusal_due : Refusal → Due
   Text_due : List ℕ → Due
   Part_due : List ℕ → Due
-  World_due : Opening → (limit : ℕ) → Due
+  World_due : (told : Past → List ℕ) → Opening → (limit : ℕ) → Due
   Flat_due : (bytes : List ℕ) → Due
 
 -- a text that tells all, or all that the limit left room for
@@ -60,7 +61,15 @@ abbrev pub due_bundle : BundleCommand → Accepted → Due
 due_bundle Validate b = Text_due (valid_text b)
 due_bundle Compile b = Text_due (compiled_text b)
 due_bundle (Central limit) b = text_due (all_fit b limit) (central_text b limit)
-due_bundle (Simulate limit) b = World_due (opening_of b) limit
+due_bundle (Simulate limit) b = World_due report (opening_of b) limit
+
+-- the text of `make`
+abbrev pub made_text : (sessions : ℕ) → Past → List ℕ
+made_text n p = codes "made " ++ decimal n ++ codes "\n" ++ totals_line p
+
+-- how the world of a generated bundle begins
+abbrev pub made_opening : (sessions : ℕ) → Opening
+made_opening n = opening_of (generated n)
 
 abbrev pub due_judged : BundleCommand → Result Accepted Refusal → Due
 due_judged c (Ok b) = due_bundle c b
@@ -69,6 +78,7 @@ due_judged c (Err r) = Refusal_due r
 abbrev pub due_bytes : Command → List ℕ → Due
 due_bytes (Bundle c) bytes = due_judged c (judged bytes)
 due_bytes Ir bytes = Flat_due bytes
+due_bytes (Make n) bytes = World_due (made_text n) (made_opening n) 1000000
 
 abbrev pub due_words : Option Command → List ℕ → Due
 due_words None bytes = Usage_due
@@ -130,14 +140,14 @@ AnswersPart text ReadFault desk old new = (desk ≡ Empty) × Keeps old new
 AnswersPart text NoMemory desk old new = (desk ≡ Empty) × Keeps old new
 AnswersPart text _ desk old new = ⊥
 
--- the world is on the desk, drained or at its limit, and its report is written
-abbrev pub AnswersWorld : Opening → (limit : ℕ) → Status → Desk → (old new : Option (List ℕ)) → Type 0
-AnswersWorld o limit Written desk old new = OnDesk desk (λ p. IsWorldOf o limit p × IsDrained p × Appends old new (report p))
-AnswersWorld o limit Spent desk old new = OnDesk desk (λ p. IsWorldOf o limit p × IsSpent p × Appends old new (report p))
-AnswersWorld o limit WriteFault desk old new = OnDesk desk (λ p. IsWorldOf o limit p × (IsDrained p ⊎ IsSpent p) × TookFront old new (report p))
-AnswersWorld o limit ReadFault desk old new = (desk ≡ Empty) × Keeps old new
-AnswersWorld o limit NoMemory desk old new = ((desk ≡ Empty) ⊎ OnDesk desk (λ p. IsWorldOf o limit p)) × Keeps old new
-AnswersWorld o limit _ desk old new = ⊥
+-- the world is on the desk, drained or at its limit, and what is told of it is written
+abbrev pub AnswersWorld : (told : Past → List ℕ) → Opening → (limit : ℕ) → Status → Desk → (old new : Option (List ℕ)) → Type 0
+AnswersWorld told o limit Written desk old new = OnDesk desk (λ p. IsWorldOf o limit p × IsDrained p × Appends old new (told p))
+AnswersWorld told o limit Spent desk old new = OnDesk desk (λ p. IsWorldOf o limit p × IsSpent p × Appends old new (told p))
+AnswersWorld told o limit WriteFault desk old new = OnDesk desk (λ p. IsWorldOf o limit p × (IsDrained p ⊎ IsSpent p) × TookFront old new (told p))
+AnswersWorld told o limit ReadFault desk old new = (desk ≡ Empty) × Keeps old new
+AnswersWorld told o limit NoMemory desk old new = ((desk ≡ Empty) ⊎ OnDesk desk (λ p. IsWorldOf o limit p)) × Keeps old new
+AnswersWorld told o limit _ desk old new = ⊥
 
 -- what is told of flat code that was judged so
 abbrev pub AnswersJudged : Result FlatIr Refusal → Status → Desk → (old new : Option (List ℕ)) → Type 0
@@ -156,7 +166,7 @@ Answers Usage_due status desk old new = AnswersUsage status desk old new
 Answers (Refusal_due r) status desk old new = AnswersRefusal r status desk old new
 Answers (Text_due text) status desk old new = AnswersText text status desk old new
 Answers (Part_due text) status desk old new = AnswersPart text status desk old new
-Answers (World_due o limit) status desk old new = AnswersWorld o limit status desk old new
+Answers (World_due told o limit) status desk old new = AnswersWorld told o limit status desk old new
 Answers (Flat_due bytes) status desk old new = AnswersFlat bytes status desk old new
 
 -- ---------------------------------------------------------------- whatever the bytes were
@@ -170,6 +180,8 @@ ShowsDone (Some (Bundle (Central limit))) Spent desk old new = (desk ≡ Empty) 
 ShowsDone (Some Ir) Written desk old new = (desk ≡ Empty) × ((ir : FlatIr) × IsWellFormed ir × Appends old new (flat_text ir))
 ShowsDone (Some (Bundle (Simulate limit))) Written desk old new = OnDesk desk (λ p. (p.limit ≡ limit) × IsChosen p × IsDrained p × Appends old new (report p))
 ShowsDone (Some (Bundle (Simulate limit))) Spent desk old new = OnDesk desk (λ p. (p.limit ≡ limit) × IsChosen p × IsSpent p × Appends old new (report p))
+ShowsDone (Some (Make n)) Written desk old new = OnDesk desk (λ p. IsWorldOf (made_opening n) 1000000 p × IsDrained p × Appends old new (made_text n p))
+ShowsDone (Some (Make n)) Spent desk old new = OnDesk desk (λ p. IsWorldOf (made_opening n) 1000000 p × IsSpent p × Appends old new (made_text n p))
 ShowsDone c status desk old new = ⊥
 
 -- The text that is written is the one of the answer. After a refusal, the usage line and a read fault the desk is empty, and
@@ -205,6 +217,15 @@ EndsRead Written left = IsAtEnd left
 EndsRead Spent left = IsAtEnd left
 EndsRead (Refused r) left = EndsAfter r left
 EndsRead _ left = Unit {0}
+
+-- `make` reads nothing
+abbrev pub ReadsAll : Option Command → Status → Option (List ℕ) → Type 0
+ReadsAll (Some (Make n)) status left = Unit {0}
+ReadsAll c status left = EndsRead status left
+
+abbrev pub ReadsNothing : Option Command → Type 0
+ReadsNothing (Some (Make n)) = Unit {0}
+ReadsNothing c = ⊥
 
 -- what a reader of what was judged answers, unless a read fails or memory runs out
 abbrev pub Takes : {A : Type 0} → Result A TakeError → Result A Refusal → Type 0

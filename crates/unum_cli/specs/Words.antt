@@ -2,7 +2,7 @@
 use Rattle.std.specs.Prelude.{ℕ, ◌+◌, ◌-◌, ◌*◌, ◌≤◌, ◌&&◌, nat_le, List, [], ◌∷◌, take, drop, length, codes, Option, Some, None, option_map, if◌then◌else◌}
 use Rattle.std.specs.Str.{bytes_eq}
 use Rattle.unum_cli.specs.declared.commands.Command.{Command}
-use Rattle.unum_cli.specs.declared.commands.Command.TheVariants.{Bundle, Ir}
+use Rattle.unum_cli.specs.declared.commands.Command.TheVariants.{Bundle, Ir, Make}
 use Rattle.unum_cli.specs.declared.commands.BundleCommand.TheVariants.{Validate, Compile, Central, Simulate}
 
 abbrev pub Word : Type 0
@@ -17,9 +17,13 @@ abbrev pub within : (low high : ℕ) → Option ℕ → Option ℕ
 within low high None = None
 within low high (Some n) = if nat_le low n && nat_le n high then Some n else None
 
--- one to eight digits, and a number from 1 to 10,000,000
-unfoldable pub limit_of : Word → Option ℕ
-limit_of w = if nat_le 1 (length w) && nat_le (length w) 8 then within 1 10000000 (number_from 0 w) else None
+-- one to eight digits, and a number from 1 to the most
+unfoldable pub number_within : (most : ℕ) → Word → Option ℕ
+number_within most w = if nat_le 1 (length w) && nat_le (length w) 8 then within 1 most (number_from 0 w) else None
+
+-- a limit is at most 10,000,000
+abbrev pub limit_of : Word → Option ℕ
+limit_of w = number_within 10000000 w
 
 -- the value of an option in the spelling with a sign
 abbrev pub value_of : Word → Option Word
@@ -50,6 +54,11 @@ without_options c (w ∷ ws) = None
 abbrev pub with_limit : (ℕ → Command) → List Word → Option Command
 with_limit c ws = option_map c (limit_in ws)
 
+-- so many sessions, from 1 to 1,000
+abbrev pub with_sessions : (ℕ → Command) → List Word → Option Command
+with_sessions c (n ∷ []) = option_map c (number_within 1000 n)
+with_sessions c _ = None
+
 -- the sequential runs of a bundle's sessions, to a limit
 abbrev pub central : ℕ → Command
 central limit = Bundle (Central limit)
@@ -65,7 +74,8 @@ commands =
     ∷ record { word = codes "compile"; with_options = without_options (Bundle Compile) }
     ∷ record { word = codes "ir"; with_options = without_options Ir }
     ∷ record { word = codes "central"; with_options = with_limit central }
-    ∷ record { word = codes "simulate"; with_options = with_limit simulation } ∷ []
+    ∷ record { word = codes "simulate"; with_options = with_limit simulation }
+    ∷ record { word = codes "make"; with_options = with_sessions Make } ∷ []
 
 abbrev pub command_in : List Row → Word → List Word → Option Command
 command_in [] w ws = None
@@ -76,8 +86,9 @@ unfoldable pub command : List Word → Option Command
 command [] = None
 command (w ∷ ws) = command_in commands w ws
 
--- a limit is at most 10,000,000
+-- a limit is at most 10,000,000, and there are at most 1,000 sessions
 abbrev pub IsLimited : Command → Type 0
 IsLimited (Bundle (Central limit)) = limit ≤ 10000000
 IsLimited (Bundle (Simulate limit)) = limit ≤ 10000000
+IsLimited (Make sessions) = sessions ≤ 1000
 IsLimited _ = Unit {0}

@@ -20,4 +20,6 @@ pub enum Command {
     Bundle(BundleCommand),
     /// Reads the text of flat code, and tells how much is in it.
     Ir,
+    /// Reads nothing: makes a bundle of so many sessions, and runs its world.
+    Make { sessions: u32 },
 }

@@ -18,7 +18,7 @@ mod writing;
 
 pub use answer::{Desk, Status};
 pub use bundle_read::{
-    BRule, BrokenPair, Bundle, BundleError, Refusal, RuleCode, open_bundle, read_bundle,
+    BRule, BrokenPair, Bundle, BundleError, Refusal, RuleCode, generate, open_bundle, read_bundle,
 };
 pub use flat_code::flat_code_is_judged_once;
 pub use session_report::{report, totals_line};

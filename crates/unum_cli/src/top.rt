@@ -4,14 +4,14 @@ ghost use Rattle.std.specs.Prelude.{◌≡◌, ◌≢◌, ◌≤◌, None, Some,
 ghost use Rattle.unum_io.specs.Causes.{Rose};
 ghost use Rattle.bundle_read.specs.Judged.{judged};
 ghost use Rattle.unum_cli.specs.Words.{command as command_of, IsLimited};
-ghost use Rattle.unum_cli.specs.Tool.{due, due_bundle, due_judged, Answers, AnswersFlat, AnswersUsage, IsOfBundle, Shows, HoldsSound, EndsRead};
+ghost use Rattle.unum_cli.specs.Tool.{due, due_bundle, due_judged, Answers, AnswersFlat, AnswersUsage, IsOfBundle, Shows, HoldsSound, EndsRead, ReadsAll, ReadsNothing};
 
 use crate::answer::{Desk, Status};
 use crate::commands::{BundleCommand, Command};
 use crate::taking::{take_bundle, take_flat};
 use crate::texts::{central, compile, tell_flat, validate};
 use crate::words::command;
-use crate::worlds::run;
+use crate::worlds::{make, run};
 use crate::writing::{tell_untaken, tell_usage};
 use bundle_read::Bundle;
 use std::alloc::Global;
@@ -85,15 +85,17 @@ fn with_flat<S: Source, K: Sink>(alloc: Global, source: &mut S, out: &mut K) -> 
 }
 
 /// Carries out the words: `validate`, `compile`, `ir`, `central` or `simulate`, these two with a limit from 1 to 10,000,000 as
-/// `--limit N` or `--limit=N`.
+/// `--limit N` or `--limit=N`, or `make N` with N from 1 to 1,000.
 ///
 /// The bytes of the source are read to their end, and refused, or else the command is carried out with what they are. With a
 /// bundle, `validate` writes how much is in it, `compile` the flat code of each of its machines, `central` how each session ends by
 /// the sequential run of its machine, with the limit in visits, and `simulate` settles its world by the plan's chooser and writes the
-/// report. With the text of flat code `ir` writes how much is in it. The desk is empty before, and
-/// afterwards it holds the world of `simulate`, unless the answer is Usage, Refused or ReadFault, or memory ran out before
-/// there was one.
-#[tactic(auto, using(crate::proofs::Due::empty_sound, crate::proofs::Due::usage_shows))]
+/// report. With the text of flat code `ir` writes how much is in it. `make` reads nothing: it settles the world of a generated bundle
+/// of N sessions, and writes what it counts.
+///
+/// The desk is empty before, and afterwards it holds the world of `simulate` or `make`, unless the answer is Usage, Refused or
+/// ReadFault, or memory ran out before there was one.
+#[tactic(auto, using(crate::proofs::Due::empty_sound, crate::proofs::Due::usage_shows, crate::proofs::Due::made_shows, crate::proofs::Due::made_due))]
 pub fn tool<S: Source, K: Sink>(
     alloc: Global,
     words: &Items<Text>,
@@ -120,9 +122,10 @@ pub fn tool<S: Source, K: Sink>(
     // acknowledged has ended.
     ensures sound { HoldsSound desk.new }
 
-    // Whatever the bytes were, the text is that of the answer, and the source was read to its end.
+    // Whatever the bytes were, the text is that of the answer, and the source was read to its end, or `make` reads nothing.
     ensures shown { Shows (command_of words.now) result desk.new (K.taken out.old) (K.taken out.new) }
-    ensures read { EndsRead result (S.left source.new) }
+    ensures read { ReadsAll (command_of words.now) result (S.left source.new) }
+    ensures untouched { ReadsNothing (command_of words.now) → (source.new ≡ source.old) × (result ≢ Status.ReadFault) }
 {
     let Some(command) = command(words) else {
         return tell_usage(out);
@@ -130,5 +133,6 @@ pub fn tool<S: Source, K: Sink>(
     match command {
         Command::Bundle(command) => with_bundle(alloc, command, source, out, desk),
         Command::Ir => with_flat(alloc, source, out),
+        Command::Make { sessions } => make(alloc, sessions, out, desk),
     }
 }

@@ -1,7 +1,7 @@
 //! The words of the command line.
 
 ghost use Rattle.std.specs.Prelude.{◌≡◌, ◌≤◌, ◌<◌, ◌^◌, ◌*◌, length, option_map, IfSome};
-ghost use Rattle.unum_cli.specs.Words.{number_from, limit_of, limit_in, command, central, simulation, with_limit, without_options, IsLimited};
+ghost use Rattle.unum_cli.specs.Words.{number_from, number_within, limit_of, limit_in, command, central, simulation, with_limit, with_sessions, without_options, IsLimited};
 
 use crate::commands::{BundleCommand, Command};
 use unum_json::{Items, Text};
@@ -25,21 +25,25 @@ fn number(word: &[u8]) -> Option<u64>
     Some(n)
 }
 
-/// A limit: one to eight digits, from 1 to 10,000,000.
-#[tactic(auto, unfolding(crate::specs::Words::limit_of))]
-fn limit_of(word: &[u8]) -> Option<u64>
-    ensures value { result ≡ limit_of word.now }
-    ensures within { IfSome result (λ n. n ≤ 10000000) }
+/// One to eight digits, which spell a number from 1 to the most.
+#[tactic(auto, unfolding(crate::specs::Words::number_within))]
+fn number_within(most: u64, word: &[u8]) -> Option<u64>
+    ensures value { result ≡ number_within most word.now }
+    ensures within { IfSome result (λ n. n ≤ most) }
 {
     if word.is_empty() || word.len() > 8 {
         return None;
     }
     let n = number(word)?;
-    if 1 <= n && n <= 10_000_000 {
-        Some(n)
-    } else {
-        None
-    }
+    if 1 <= n && n <= most { Some(n) } else { None }
+}
+
+/// A limit, which is at most 10,000,000.
+fn limit_of(word: &[u8]) -> Option<u64>
+    ensures value { result ≡ limit_of word.now }
+    ensures within { IfSome result (λ n. n ≤ 10000000) }
+{
+    number_within(10_000_000, word)
 }
 
 /// The limit of the options: 1,000,000, or the one in `--limit N` or `--limit=N`.
@@ -95,6 +99,22 @@ fn simulate(words: &[Text]) -> Option<Command>
     }
 }
 
+/// `make` with its number of sessions.
+fn make(words: &[Text]) -> Option<Command>
+    ensures value { result ≡ with_sessions Command.Make words.now }
+    ensures limited { IfSome result IsLimited }
+{
+    match words {
+        [number] => match number_within(1000, number.as_bytes()) {
+            Some(sessions) => Some(Command::Make {
+                sessions: sessions as u32,
+            }),
+            None => None,
+        },
+        _ => None,
+    }
+}
+
 /// The command that the words are.
 #[tactic(auto, unfolding(crate::specs::Words::command))]
 pub fn command(words: &Items<Text>) -> Option<Command>
@@ -114,6 +134,8 @@ pub fn command(words: &Items<Text>) -> Option<Command>
                 central(options)
             } else if word.as_bytes() == b"simulate".as_slice() {
                 simulate(options)
+            } else if word.as_bytes() == b"make".as_slice() {
+                make(options)
             } else {
                 None
             }
