@@ -7,6 +7,7 @@ pub mod Halving
 pub mod PlanRises
 pub mod Somewhere
 pub mod Steps
+pub mod Tasks
 pub mod Unbroken
 pub mod Values
 pub mod Walk

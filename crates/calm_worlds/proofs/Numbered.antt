@@ -18,7 +18,7 @@ use Rattle.calm_worlds.specs.Numbered.{IsCalmlySound, EveryCalmNumberedRunIsSoun
 use Rattle.calm_worlds.proofs.Good.{every_calm_world_is_single}
 use Rattle.calm_worlds.proofs.Totals.{every_calm_world_costs}
 use Rattle.calm_worlds.proofs.Ends.{every_calm_end_is_complete, every_calm_end_costs}
-use Rattle.calm_worlds.proofs.Alones.{every_calm_end_is_sequential}
+use Rattle.calm_worlds.proofs.Alones.{every_calm_end_is_sequential, every_calm_end_costs_alike}
 use Rattle.calm_worlds.proofs.Grow.{every_calm_world_stays_within}
 use Rattle.calm_worlds.proofs.Busy.{every_calm_world_goes_on}
 use Rattle.calm_worlds.proofs.Plans.{every_obeying_run_is_calm}
@@ -80,6 +80,7 @@ module _ (o : Opening) (codes : Codes ℕ) (sites : ℕ → ℕ → Site) (size 
           complete = λ n. every_calm_end_is_complete o es z q calm (λ x. same x ∙ n x);
           exact = λ n. every_calm_end_costs o es z q calm (λ x. same x ∙ n x);
           sequential = λ n steady call answers. every_calm_end_is_sequential o es z q calm (λ x. same x ∙ n x) steady call answers;
+          exact_alone = λ n steady call answers. every_calm_end_costs_alike o es z q calm (λ x. same x ∙ n x) steady call answers;
           stays_within = λ f steady call answers.
               let b = every_calm_world_stays_within o es z q calm f steady call answers in
               record { events_within = b.events_within; marks_within = b.marks_within; room = λ x y. b.room x (same x ∙ y) };

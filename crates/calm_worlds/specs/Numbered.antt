@@ -16,9 +16,9 @@ use Rattle.world_plans.specs.declared.planning.Plan.{Plan}
 use Rattle.world_plans.specs.Plans.{HasNoMishap}
 use Rattle.world_plans.specs.Chooser.{Obeys}
 use Rattle.calm_worlds.specs.Calm.{IsCalm, StaysCalm, AreCalm, IsSingle}
-use Rattle.calm_worlds.specs.Cost.{total_cost, total_marks, HasFunctions}
+use Rattle.calm_worlds.specs.Cost.{cost, marks, total_cost, total_marks, HasFunctions}
 use Rattle.calm_worlds.specs.Whole.{IsComplete}
-use Rattle.calm_worlds.specs.Alone.{AreSequential, StaysWithin}
+use Rattle.calm_worlds.specs.Alone.{AreSequential, total_alone, StaysWithin}
 
 -- no event may happen
 abbrev pub IsSpent : {M S B : Type 0} → Codes S → any_code.World M S B → Type 0
@@ -36,6 +36,9 @@ pub record IsCalmlySound (o : Opening) (codes : Codes ℕ) (sites : ℕ → ℕ 
   pub complete : IsSpent codes w → IsComplete (image sites w objects)
   pub exact : IsSpent codes w → (length events ≡ total_cost w) × (w.marks ≡ total_marks w)
   pub sequential : IsSpent codes w → AllSteady o.functions → (call : Functions) → AnswerAs o.functions call → AreSequential w call
+  pub exact_alone :
+      IsSpent codes w → AllSteady o.functions → (call : Functions) → AnswerAs o.functions call →
+      (length events ≡ total_alone cost call 0 o.sessions) × (w.marks ≡ total_alone marks call 0 o.sessions)
   pub stays_within :
       HasFunctions o → AllSteady o.functions → (call : Functions) → AnswerAs o.functions call → StaysWithin codes w events call
   pub goes_on : (e : Event) → any_code.enabled codes w e ≡ true → (d : Event) × (any_code.enabled codes w d ≡ true) × IsCalm w d

@@ -4,7 +4,7 @@ pub mod Place
 pub mod InBlock
 pub mod Steps
 pub mod Stands
-pub mod Walking
+pub mod WalkStops
 pub mod Stops
 pub mod Sites
 pub mod Maps

@@ -30,7 +30,7 @@ use Rattle.continuation_gen.specs.Coded.{with_input, call_by, code_of_ir}
 use Rattle.continuation_gen.specs.Laws.{ir_size, input_in_call, ReadsAlike, IrMaps}
 use Rattle.continuation_gen.proofs.Steps.{AlikeBegun, begins_alike}
 use Rattle.continuation_gen.proofs.Stands.{func_number, block_listed, NodeAt, node_at, NumberOf, func_is, nexts_number, scope_found, enter_at, enter_number, call_number, nested_of}
-use Rattle.continuation_gen.proofs.Walking.{StopIs, begins_at}
+use Rattle.continuation_gen.proofs.WalkStops.{StopIs, begins_at}
 use Rattle.continuation_gen.proofs.Stops.{IsTask, IsFan, kind_of, enter_stop, task_stop, fan_stop}
 use Rattle.continuation_gen.proofs.Sites.{RowOf, row_of, enter_entry, call_entry, bare_same, same_length, same_size}
 

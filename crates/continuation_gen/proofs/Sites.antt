@@ -25,7 +25,7 @@ use Rattle.continuation_gen.specs.Laws.{ir_size}
 use Rattle.continuation_gen.proofs.Place.{Runs, place_blocks, block_in}
 use Rattle.continuation_gen.proofs.InBlock.{length-visited_at, length-visits_in, length-funcs_from, scopes_size, scopes_under_size, visit_found}
 use Rattle.continuation_gen.proofs.Stands.{func_number, last_at, all_run, number_of, many, length-enters, with_enter, calls_in, length-calls_of, all_flat}
-use Rattle.continuation_gen.proofs.Walking.{CallIs, FanIs, StopIs}
+use Rattle.continuation_gen.proofs.WalkStops.{CallIs, FanIs, StopIs}
 
 -- ---------------------------------------------------------------- functions before a scope
 

@@ -21,7 +21,7 @@ use Rattle.continuation_gen.specs.Laws.{SameChildren, SameStop, FlatIsStretch, F
 use Rattle.continuation_gen.proofs.Lists.{in_get}
 use Rattle.continuation_gen.proofs.Place.{place_head}
 use Rattle.continuation_gen.proofs.Stands.{func_number, block_at, placed_at, node_at, NumberOf, node_is, enter_at, enter_number, call_number}
-use Rattle.continuation_gen.proofs.Walking.{CallIs, FanIs, StopIs, flat_same, node_after, enter_after}
+use Rattle.continuation_gen.proofs.WalkStops.{CallIs, FanIs, StopIs, flat_same, node_after, enter_after}
 
 -- ---------------------------------------------------------------- the kinds of states
 

@@ -76,7 +76,7 @@ fn tell_event(rt: &impl Print, alloc: Global, world: &mut World, word: &str) -> 
         return println!(rt; "no event");
     };
     for _ in 0..times {
-        print_outcome(rt, name, world.apply(alloc, event))?;
+        print_outcome(rt, name, world.apply(event))?;
         print_report(rt, alloc, world, false)?;
     }
     Ok(())
@@ -93,7 +93,7 @@ fn tell_events(rt: &impl Print, alloc: Global, world: &mut World, list: &str) ->
 /// Makes an event so often, until it is refused.
 fn make(alloc: Global, world: &mut World, event: Event, times: u32) -> Result<(), ApplyError> {
     for _ in 0..times {
-        world.apply(alloc, event)?;
+        world.apply(event)?;
     }
     Ok(())
 }

@@ -9,7 +9,7 @@ use Rattle.world_model.specs.AnyCode.Operations.{Kept, Held, Invocation, Op, Inv
 use Rattle.world_model.specs.AnyCode.Acts.{enter_at, set_ops, width_around, acts_of, acts}
 use Rattle.world_model.specs.AnyCode.Program.{Phase, Gathering, Acting, kept_of, gathered_phase, branch_input, read_phase, after_out}
 use Rattle.continuation_gen.specs.Coded.{code_of_ir}
-use Rattle.fn_wrapper.specs.declared.absorbing.Branches.{Branches}
+use Rattle.fn_wrapper.specs.declared.replies.Branches.{Branches}
 
 -- what it does at that stop
 abbrev pub acts_at : Ir → Invocation ℕ → Stop ℕ → List (Op ℕ (List Bool))

@@ -1,16 +1,16 @@
 //! The program of an instance: what an attempt of an invocation does next, and where it stands after a reply.
 #![tactic(auto)]
 
-mod absorbing;
 mod acts;
 mod copies;
 mod laws;
 mod names;
 mod program;
+mod replies;
 mod stopping;
 
-pub use absorbing::{Instance, absorb, called};
 pub use acts::{act_at, act_count};
 pub use laws::attempts_are_ready;
 pub use program::{is_call, next};
+pub use replies::{Instance, absorb, called};
 pub use stopping::stop_at;

@@ -14,7 +14,7 @@ use Rattle.ir_text.specs.Walks.{part_faults, item_faults, member_faults, member_
 use Rattle.ir_text.specs.Texts.{unlike, items_unlike, members_unlike}
 use Rattle.ir_text.specs.declared.kinds.Object.{Object}
 use Rattle.ir_text.specs.declared.kinds.Part.{Part}
-use Rattle.ir_text.specs.declared.walking.Walk.{Walk}
+use Rattle.ir_text.specs.declared.walk.Walk.{Walk}
 
 -- the answer of a check that refuses
 abbrev pub Refuses : ReadFault → List Broken → Type 0

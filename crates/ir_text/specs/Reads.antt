@@ -13,7 +13,7 @@ use Rattle.ir_text.specs.declared.fault.IrError.TheVariants.{BadIr, NoMemory}
 use Rattle.ir_text.specs.declared.kinds.Object.TheVariants as object
 use Rattle.ir_text.specs.declared.kinds.Part.TheVariants as part
 use Rattle.ir_text.specs.declared.ranges.Sizes.{Sizes}
-use Rattle.ir_text.specs.declared.walking.Walk.TheVariants as walk
+use Rattle.ir_text.specs.declared.walk.Walk.TheVariants as walk
 use Rattle.ir_text.specs.Printed.{ir_value}
 use Rattle.ir_text.specs.Spelled.{ir_of}
 use Rattle.ir_text.specs.Texts.{unlike}

@@ -15,10 +15,10 @@ use Rattle.asl_read.specs.declared.table.Kind.TheVariants.{FlatRule}
 use Rattle.ir_text.specs.declared.kinds.Object.{Object}
 use Rattle.ir_text.specs.declared.kinds.Part.{Part}
 use Rattle.ir_text.specs.declared.kinds.Part.TheVariants as part
-use Rattle.ir_text.specs.declared.walking.Form.{Form}
-use Rattle.ir_text.specs.declared.walking.Form.TheVariants.{Refused, Fields, Whole}
-use Rattle.ir_text.specs.declared.walking.Walk.{Walk}
-use Rattle.ir_text.specs.declared.walking.Walk.TheVariants as walk
+use Rattle.ir_text.specs.declared.walk.Form.{Form}
+use Rattle.ir_text.specs.declared.walk.Form.TheVariants.{Refused, Fields, Whole}
+use Rattle.ir_text.specs.declared.walk.Walk.{Walk}
+use Rattle.ir_text.specs.declared.walk.Walk.TheVariants as walk
 use Rattle.ir_text.specs.Tables.{fields, item_part, ops, kinds}
 use Rattle.ir_text.specs.Ranges.{range_faults}
 

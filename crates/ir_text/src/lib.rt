@@ -20,7 +20,7 @@ mod rows;
 mod rules;
 mod spelling;
 mod texts;
-mod walking;
+mod walk;
 
 pub use fault::{IRule, IrError};
 pub use laws::flat_forms_read_back;

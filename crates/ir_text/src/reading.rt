@@ -14,7 +14,7 @@ use crate::printing::ir_value;
 use crate::ranges::sizes_of;
 use crate::spelling::ir_of;
 use crate::texts::check_printed;
-use crate::walking::{Walk, check_part};
+use crate::walk::{Walk, check_part};
 use asl_read::ReadFault;
 use serde_json::Value;
 use std::alloc::Global;

@@ -72,7 +72,8 @@ impl<W: Logged> SeatLock<W> {
     /// Waits for the seat's turn and runs the job once on the value. The seat has then seen the log that the job left.
     ///
     /// The value has the opening of the lock, and the log that the job met goes on from what the seat had seen.
-    /// It takes no memory.
+    /// It takes no memory. Who waits for a ticket is woken: where the ticket that is now served is also the next to be
+    /// drawn, nobody waits, and whoever draws later sees that it is served.
     pub fn turn<J: Job<W>, R: Wait>(&self, rt: &R, seat: &mut Seat<W>, job: J) -> J::Answer
         requires own { IsOf self.now seat.old }
         requires ready { J.needs job self.now.opening seat.old.seen }
@@ -91,7 +92,9 @@ impl<W: Logged> SeatLock<W> {
         count::<W, Brand>(table, &mut seat.token, &value, after - before);
         table.shared.exchange(&mut seat.token, 0, Some(value));
         table.shared.fetch_add::<PassOn>(&mut seat.token, SERVED, 1);
-        table.shared.wake_all(SERVED);
+        if table.shared.peek(SERVED) != table.shared.peek(NEXT) {
+            table.shared.wake_all(SERVED);
+        }
         seat.seen = after;
         answer
     }

@@ -7,7 +7,7 @@ use Rattle.unum_json.specs.declared.value.Json as json
 use Rattle.unum_json.specs.Tree.{on_values}
 use Rattle.unum_json.specs.Written.{text, quoted, field_text, escaped_byte}
 use Rattle.world_model.specs.AnyCode.World.{objects_with, root_invs, root_states, start_objects, effect, enabled, run_from}
-use Rattle.world_plans.specs.Standings.{all_over, standing, count_from, crashes_in}
+use Rattle.world_plans.specs.Sessions.{all_over, standing, count_from, crashes_in}
 use Rattle.session_report.specs.Report.{lines, outcome_text, sessions_text, counts_text, tries_text, totals_text, report}
 use Rattle.session_report.specs.Shown.{FailureText, Lines, TotalsLine, WholeReport}
 

@@ -7,8 +7,8 @@ use Rattle.place_name.specs.Spelling.{spelling}
 use Rattle.world_types.specs.declared.queue.Entry.{Entry}
 use Rattle.world_model.specs.Numbered.{Numbered}
 use Rattle.world_plans.specs.declared.totals.Totals.{Totals}
-use Rattle.world_plans.specs.Standings.{Standing, Ended, Abandoned, StillOpen, session_of, totals_of}
-use Rattle.unum_world.specs.Pasts.{Past, now}
+use Rattle.world_plans.specs.Sessions.{SessionStatus, Ended, Abandoned, StillOpen, session_of, totals_of}
+use Rattle.unum_world.specs.Traces.{Trace, now}
 
 -- f of each number from k on, so many
 unfoldable pub lines : (f : ℕ → List ℕ) → (k count : ℕ) → List ℕ
@@ -19,12 +19,12 @@ lines f k (suc n) = f k ++ lines f (suc k) n
 unfoldable pub outcome_text : Outcome → List ℕ
 outcome_text o = text (outcome_value o)
 
-abbrev pub state_text : Standing → List ℕ
+abbrev pub state_text : SessionStatus → List ℕ
 state_text (Ended o) = codes "ended " ++ outcome_text o
 state_text Abandoned = codes "abandoned"
 state_text StillOpen = codes "open"
 
-abbrev pub session_text : ℕ → Option Standing → List ℕ
+abbrev pub session_text : ℕ → Option SessionStatus → List ℕ
 session_text k None = []
 session_text k (Some s) = codes "session " ++ decimal k ++ codes " " ++ state_text s ++ codes "\n"
 
@@ -55,11 +55,11 @@ unfoldable pub totals_text : Totals → List ℕ
 totals_text t = sessions_text t ++ counts_text t ++ tries_text t
 
 -- the line of what the world counts
-abbrev pub totals_line : Past → List ℕ
+abbrev pub totals_line : Trace → List ℕ
 totals_line p = totals_text (totals_of (now p) p.history)
 
 -- The report: a line for each session in order, one for each checkpoint in the order of winning, and the totals.
-unfoldable pub report : Past → List ℕ
+unfoldable pub report : Trace → List ℕ
 report p =
     codes "unum report 1\n"
     ++ lines (session_line (now p)) 0 (length p.opening.sessions)

@@ -9,7 +9,7 @@ use Rattle.asl_model.specs.declared.machine.Machine.{Machine}
 use Rattle.world_types.specs.declared.queue.Event.{Event}
 use Rattle.world_types.specs.declared.queue.Event.TheVariants.{Deliver, Crash, GiveUp}
 use Rattle.world_plans.specs.declared.planning.Plan.{Plan}
-use Rattle.world_plans.specs.Standings.{Ended}
+use Rattle.world_plans.specs.Sessions.{Ended}
 use Rattle.unum_world.specs.declared.opening.Opening.{Opening}
 use Rattle.session_report.specs.Report.{outcome_text, session_text, entry_text, totals_text, report}
 

@@ -2,8 +2,8 @@
 
 ghost use Rattle.std.specs.Prelude.{◌≡◌, ◌++◌, decimal, slice_get, length, string_bytes, IfOk, OnOk};
 ghost use Rattle.unum_world.specs.Answers.{IsOne};
-ghost use Rattle.unum_world.specs.Pasts.{now};
-ghost use Rattle.world_plans.specs.Standings.{Standing, session_of};
+ghost use Rattle.unum_world.specs.Traces.{now};
+ghost use Rattle.world_plans.specs.Sessions.{SessionStatus, session_of};
 ghost use Rattle.session_report.specs.Report.{outcome_text, state_text, session_text, session_line, entry_text, entry_line, sessions_text, counts_text, tries_text, totals_text, totals_line, lines, report as report_of};
 
 use place_name::spell;
@@ -34,7 +34,7 @@ pub fn push_outcome(alloc: Global, out: &mut String, outcome: &Outcome) -> Resul
 }
 
 fn push_state(alloc: Global, out: &mut String, state: SessionState<'_>) -> Result<(), NoMemory>
-    ensures { (s : Standing) → IsOne state.entry s → OnOk result (string_bytes out.new ≡ string_bytes out.old ++ state_text s) }
+    ensures { (s : SessionStatus) → IsOne state.entry s → OnOk result (string_bytes out.new ≡ string_bytes out.old ++ state_text s) }
 {
     match state {
         SessionState::Ended(outcome) => {

@@ -1,4 +1,5 @@
 //! Cases of the top call.
+ghost use Rattle.std.specs.Prelude.{◌≤◌, IfOk, IfSome};
 
 use crate::fault::Fault;
 use crate::given::number;
@@ -42,16 +43,39 @@ fn numbers(alloc: Global, line: &str, word: &str) -> Result<Vec<u32>, Fault> {
     Ok(numbers)
 }
 
-/// A source of these bytes, some of whose reads fail.
-fn source(alloc: Global, bytes: &[u8], line: &str) -> Result<MemSource, Fault> {
-    let failing = numbers(alloc, line, "reads ")?;
-    Ok(MemSource::new(alloc, bytes, failing.as_slice())?)
+/// The size of the pieces after that word in the parts of a line, if it is there and no zero.
+fn piece(line: &str, word: &str) -> Result<Option<u32>, Fault>
+    ensures { IfOk result (λ p. IfSome p (λ n. 1 ≤ n)) }
+{
+    for part in line.split('|') {
+        if let Some(digits) = part.trim().strip_prefix(word) {
+            let size = number(digits)?;
+            return if size > 0 {
+                Ok(Some(size))
+            } else {
+                Err(Fault::NotRead)
+            };
+        }
+    }
+    Ok(None)
 }
 
-/// A sink, some of whose writes fail.
+/// A source of these bytes, which may give them in pieces, and some of whose reads fail.
+fn source(alloc: Global, bytes: &[u8], line: &str) -> Result<MemSource, Fault> {
+    let failing = numbers(alloc, line, "reads ")?;
+    match piece(line, "gives ")? {
+        Some(size) => Ok(MemSource::in_pieces(alloc, bytes, size, failing.as_slice())?),
+        None => Ok(MemSource::new(alloc, bytes, failing.as_slice())?),
+    }
+}
+
+/// A sink, which may take its bytes in pieces, and some of whose writes fail.
 fn sink(alloc: Global, line: &str) -> Result<MemSink, Fault> {
     let failing = numbers(alloc, line, "writes ")?;
-    Ok(MemSink::new(alloc, ROOM, failing.as_slice())?)
+    match piece(line, "takes ")? {
+        Some(size) => Ok(MemSink::in_pieces(alloc, ROOM, size, failing.as_slice())?),
+        None => Ok(MemSink::new(alloc, ROOM, failing.as_slice())?),
+    }
 }
 
 fn tell_desk(out: &mut String, desk: &Desk) -> Result<(), Fault> {

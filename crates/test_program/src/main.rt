@@ -9,9 +9,12 @@
 //!
 //! The cases:
 //!
-//! - `tool WORDS | reads N .. | writes N ..`: the top call with these words, where the reads and writes of these numbers fail;
+//! - `tool WORDS | reads N .. | writes N .. | gives N | takes N`: the top call with these words, where the reads and writes of these
+//!   numbers fail, and the source gives or the sink takes N bytes at a time;
 //! - `prefixes WORDS`: the same for each proper prefix of the bytes;
 //! - `world LIMIT WORDS` and `settled LIMIT WORDS`: a world that has just begun, or has settled, and what `worlds` does in it;
+//! - `costs LIMIT` and `made N LIMIT`: how the world of the bundle, or of the generated one of N sessions, settles, and its events and
+//!   marks beside what the visits of the sequential runs cost;
 //! - `plan step N | twin N | pick LEN OF`: what the plan of the bundle says;
 //! - `flat STATE HOP RAW USED ANSWER`: where the flat code of the machine in `machine` stops after that answer (STATE is `-` for the
 //!   Enter); `walk NODE HOP VALUE`: where it stops from a node on;
@@ -24,6 +27,7 @@
 #![tactic(auto)]
 
 mod calls;
+mod costs;
 mod fault;
 mod flat;
 mod given;
@@ -34,6 +38,7 @@ mod runs;
 mod worlds;
 
 use calls::{prefixes, tool_case};
+use costs::{costs, made_costs};
 use fault::Fault;
 use flat::code;
 use given::{Given, split_word};
@@ -63,6 +68,8 @@ fn run(alloc: Global, given: &Given, out: &mut String, line: &str) -> Result<(),
         "prefixes" => prefixes(alloc, out, given.bytes(), rest),
         "world" => world(alloc, out, given, rest),
         "settled" => settled(alloc, out, given, rest),
+        "costs" => costs(alloc, out, given, rest),
+        "made" => made_costs(alloc, out, rest),
         "plan" => plan(alloc, out, given.bytes(), rest),
         "flat" | "walk" | "code" | "joined" => code(alloc, out, word, rest),
         "given" => given_answers(alloc, out, rest),

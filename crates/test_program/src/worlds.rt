@@ -2,7 +2,7 @@
 //!
 //! The words of a case are events, each a letter (D, C, S, A or G for Deliver, Crash, Step, Answer and GiveUp) and a number, and
 //! where there are several at once `*` and how many. `A1:echo:5` is the answer that an echo gives to the attempt 1 for the
-//! input 5, and `next` the event that the chooser takes next. `enabled?D0` asks whether an event is enabled, `session?2` and
+//! input 5, `next` the event that the chooser takes next, and `crash_all` the crash of each attempt that lives. `enabled?D0` asks whether an event is enabled, `session?2` and
 //! `entry?2` whether there is one of that number, `event?2` which event it is, and `live?0` how many objects of a session are live. Of an
 //! event that is refused the refusal is printed, and at the end the numbers of events and checkpoints, and the report.
 ghost use Rattle.std.specs.Prelude.{◌≤◌, IfOk};
@@ -19,7 +19,7 @@ use unum_world::{ApplyError, Opening, Planned, World};
 use world_types::Event;
 
 /// How the worlds of a case begin.
-fn opening(alloc: Global, given: &Given) -> Result<Opening, Fault>
+pub fn opening(alloc: Global, given: &Given) -> Result<Opening, Fault>
     ensures { IfOk result Fits }
 {
     let Ok(bundle) = read_bundle(alloc, given.bytes()) else {
@@ -50,14 +50,14 @@ fn tell_refusal(out: &mut String, word: &str, made: Result<(), ApplyError>) -> R
 }
 
 /// Makes an event, once or several times.
-fn make(alloc: Global, out: &mut String, world: &mut World, word: &str) -> Result<(), Fault> {
+fn make(out: &mut String, world: &mut World, word: &str) -> Result<(), Fault> {
     let (name, times) = match word.split_once('*') {
         Some((name, times)) => (name, number(times)?),
         None => (word, 1),
     };
     let event = event(name)?;
     for _ in 0..times {
-        tell_refusal(out, name, world.apply(alloc, event))?;
+        tell_refusal(out, name, world.apply(event))?;
     }
     Ok(())
 }
@@ -79,7 +79,7 @@ fn answer(
     ticket: u32,
 ) -> Result<(), ApplyError> {
     match BuiltIns::new(alloc).answer(kind, &Json::whole(input), ticket) {
-        Ok(done) => world.answer(alloc, &done),
+        Ok(done) => world.answer(&done),
         Err(_) => Err(ApplyError::NoMemory),
     }
 }
@@ -96,12 +96,12 @@ fn give(alloc: Global, out: &mut String, world: &mut World, word: &str) -> Resul
 }
 
 /// Makes the event that the chooser takes next.
-fn make_next(alloc: Global, out: &mut String, world: &mut World) -> Result<(), Fault> {
+fn make_next(out: &mut String, world: &mut World) -> Result<(), Fault> {
     match world.choose() {
         None => out.push_str("next: none\n")?,
         Some(event) => {
             tell(out, "next", &event)?;
-            tell_refusal(out, "next", world.apply(alloc, event))?;
+            tell_refusal(out, "next", world.apply(event))?;
         }
     }
     Ok(())
@@ -124,7 +124,10 @@ fn ask(out: &mut String, world: &World, word: &str) -> Result<(), Fault> {
 /// Does what a word says.
 fn carry_out(alloc: Global, out: &mut String, world: &mut World, word: &str) -> Result<(), Fault> {
     if word == "next" {
-        return make_next(alloc, out, world);
+        return make_next(out, world);
+    }
+    if word == "crash_all" {
+        return tell(out, word, &world.crash_all());
     }
     if word.contains(':') {
         return give(alloc, out, world, word);
@@ -132,7 +135,7 @@ fn carry_out(alloc: Global, out: &mut String, world: &mut World, word: &str) -> 
     if word.contains('?') {
         return ask(out, world, word);
     }
-    make(alloc, out, world, word)
+    make(out, world, word)
 }
 
 /// Does what the words say, and writes what the world is then.
@@ -152,7 +155,7 @@ fn act(alloc: Global, out: &mut String, world: &mut World, words: &str) -> Resul
 }
 
 /// The limit that a case begins with, and its words.
-fn limited(rest: &str) -> Result<(u64, &str), Fault>
+pub fn limited(rest: &str) -> Result<(u64, &str), Fault>
     ensures { IfOk result (λ r. r.0 ≤ 10000000) }
 {
     let (limit, words) = split_word(rest);
@@ -175,8 +178,8 @@ pub fn world(alloc: Global, out: &mut String, given: &Given, rest: &str) -> Resu
 }
 
 /// A world that has settled, and how it has.
-fn settle(alloc: Global, out: &mut String, planned: &mut Planned) -> Result<(), Fault> {
-    let how = planned.settle(alloc)?;
+fn settle(out: &mut String, planned: &mut Planned) -> Result<(), Fault> {
+    let how = planned.settle()?;
     tell(out, "settled", &how)
 }
 
@@ -185,7 +188,7 @@ pub fn settled(alloc: Global, out: &mut String, given: &Given, rest: &str) -> Re
     let (limit, words) = limited(rest)?;
     let opening = opening(alloc, given)?;
     let mut planned = Planned::open(alloc, opening, limit)?;
-    let told = settle(alloc, out, &mut planned);
+    let told = settle(out, &mut planned);
     let mut world = planned.into_world();
     let acted = act(alloc, out, &mut world, words);
     drop(world);

@@ -3,6 +3,7 @@
 #![tactic(auto)]
 
 use std::alloc::Global;
+use std::io::ErrorKind;
 use std::process::ExitCode;
 use std::rt::Env;
 use std::{env, io};
@@ -10,15 +11,25 @@ use unum_cli::{Desk, Status, tool};
 use unum_io::{StdSink, StdSource};
 use unum_json::{Items, NoMemory, Text};
 
-/// The arguments after the program's name, and none where some argument is no text.
+/// The arguments after the program's name. No word where one of them is no text, which is no command then.
 fn words(rt: &(impl Env + AllocGlobal), alloc: Global) -> Result<Items<Text>, NoMemory> {
     let mut words = Items::new(alloc);
-    if let Ok(args) = env::args(rt) {
-        for arg in args.skip(1) {
-            words.push(Text::from_string(arg)?)?;
+    match env::args(rt) {
+        Ok(args) => {
+            for arg in args.skip(1) {
+                words.push(Text::from_string(arg)?)?;
+            }
+            Ok(words)
+        }
+        Err(error) => {
+            drop(words);
+            if error.kind() == ErrorKind::OutOfMemory {
+                Err(NoMemory)
+            } else {
+                Ok(Items::new(alloc))
+            }
         }
     }
-    Ok(words)
 }
 
 fn main(rt: HostRuntime) -> ExitCode {

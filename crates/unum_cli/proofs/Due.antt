@@ -13,7 +13,7 @@ use Rattle.bundle_read.specs.declared.refusal.RuleCode.TheVariants as code
 use Rattle.bundle_read.specs.declared.refusal.Refusal.{Refusal}
 use Rattle.bundle_read.specs.declared.refusal.Refusal.TheVariants.{One, Many}
 use Rattle.unum_world.specs.declared.opening.Opening.{Opening}
-use Rattle.unum_world.specs.Pasts.{Past, IsDrained}
+use Rattle.unum_world.specs.Traces.{Trace, IsChosen, IsObeying, IsDrained}
 use Rattle.unum_cli.specs.declared.answer.Desk.{Desk}
 use Rattle.unum_cli.specs.declared.answer.Desk.TheVariants.{Empty, Open}
 use Rattle.unum_cli.specs.declared.answer.Status.{Status}
@@ -30,7 +30,7 @@ use Rattle.unum_cli.specs.Refused.{refusal_text}
 use Rattle.session_report.specs.Report.{report}
 use Rattle.unum_cli.specs.Valid.{valid_text}
 use Rattle.unum_cli.specs.Words.{simulation}
-use Rattle.unum_cli.specs.Tool.{due_bundle, due_words, made_opening, made_text, text_due, Answers, AnswersPart, AnswersRefusal, AnswersText, AnswersUntaken, AnswersUsage, AnswersWorld, EndsAfter, EndsRead, HoldsSound, Shows, Takes, TakesAll, TakesBytes, TakesFlat, AnswersFlat, AnswersJudged, IsSpent, IsWorldOf, Wrote, due_judged}
+use Rattle.unum_cli.specs.Tool.{Maker, By_chooser, By_workers, Done, ShowsOr, ShowsDone, due_bundle, due_words, made_opening, made_text, text_due, Answers, AnswersPart, AnswersRefusal, AnswersText, AnswersUntaken, AnswersUsage, AnswersWorld, EndsAfter, EndsRead, HoldsSound, OnDesk, Shows, Takes, TakesAll, TakesBytes, TakesFlat, AnswersFlat, AnswersJudged, IsMadeBy, IsSpent, IsWorldOf, Wrote, due_judged}
 
 pub each_some : {T : Type 0} (o : Option T) (P : T → Type 0) → ((x : T) → o ≡ Some x → P x) → IfSome o P
 each_some None P h = tt
@@ -74,64 +74,67 @@ empty_sound d e = subst HoldsSound (sym e) tt
 
 -- ---------------------------------------------------------------- what an answer shows
 
+usage_tells : (done : Done) (status : Status) (desk : Desk) (old new : Option (List ℕ)) → AnswersUsage status desk old new → ShowsOr done status desk old new
+usage_tells done Usage desk old new h = h
+usage_tells done WriteFault desk old new h = tt
+usage_tells done Written desk old new h = absurd h
+usage_tells done (Refused r) desk old new h = absurd h
+usage_tells done ReadFault desk old new h = absurd h
+usage_tells done Spent desk old new h = absurd h
+usage_tells done NoMemory desk old new h = absurd h
+
 pub usage_shows : (c : Option Command) (status : Status) (desk : Desk) (old new : Option (List ℕ)) → AnswersUsage status desk old new → Shows c status desk old new
-usage_shows c Usage desk old new h = h
-usage_shows c WriteFault desk old new h = tt
-usage_shows c Written desk old new h = absurd h
-usage_shows c (Refused r) desk old new h = absurd h
-usage_shows c ReadFault desk old new h = absurd h
-usage_shows c Spent desk old new h = absurd h
-usage_shows c NoMemory desk old new h = absurd h
+usage_shows c = usage_tells (ShowsDone c)
 
-pub refusal_shows : (c : Option Command) (r : Refusal) (status : Status) (desk : Desk) (old new : Option (List ℕ)) → AnswersRefusal r status desk old new → Shows c status desk old new
-refusal_shows c r (Refused s) desk old new h = (h.1, subst (λ t. Appends old new (refusal_text t)) (sym h.0) h.2)
-refusal_shows c r WriteFault desk old new h = tt
-refusal_shows c r ReadFault desk old new h = h
-refusal_shows c r NoMemory desk old new h = h.1
-refusal_shows c r Written desk old new h = absurd h
-refusal_shows c r Usage desk old new h = absurd h
-refusal_shows c r Spent desk old new h = absurd h
+refusal_tells : (done : Done) (r : Refusal) (status : Status) (desk : Desk) (old new : Option (List ℕ)) → AnswersRefusal r status desk old new → ShowsOr done status desk old new
+refusal_tells done r (Refused s) desk old new h = (h.1, subst (λ t. Appends old new (refusal_text t)) (sym h.0) h.2)
+refusal_tells done r WriteFault desk old new h = tt
+refusal_tells done r ReadFault desk old new h = h
+refusal_tells done r NoMemory desk old new h = h.1
+refusal_tells done r Written desk old new h = absurd h
+refusal_tells done r Usage desk old new h = absurd h
+refusal_tells done r Spent desk old new h = absurd h
 
-told_shows : (c : Option Command) (text : List ℕ) → ((desk : Desk) (old new : Option (List ℕ)) → desk ≡ Empty → Appends old new text → Shows c Written desk old new)
-    → (status : Status) (desk : Desk) (old new : Option (List ℕ)) → AnswersText text status desk old new → Shows c status desk old new
-told_shows c text shown Written desk old new h = shown desk old new h.0 h.1
-told_shows c text shown WriteFault desk old new h = tt
-told_shows c text shown ReadFault desk old new h = h
-told_shows c text shown NoMemory desk old new h = h.1
-told_shows c text shown (Refused r) desk old new h = absurd h
-told_shows c text shown Usage desk old new h = absurd h
-told_shows c text shown Spent desk old new h = absurd h
+told_shows : (done : Done) (text : List ℕ) → ((desk : Desk) (old new : Option (List ℕ)) → desk ≡ Empty → Appends old new text → done Written desk old new)
+    → (status : Status) (desk : Desk) (old new : Option (List ℕ)) → AnswersText text status desk old new → ShowsOr done status desk old new
+told_shows done text shown Written desk old new h = shown desk old new h.0 h.1
+told_shows done text shown WriteFault desk old new h = tt
+told_shows done text shown ReadFault desk old new h = h
+told_shows done text shown NoMemory desk old new h = h.1
+told_shows done text shown (Refused r) desk old new h = absurd h
+told_shows done text shown Usage desk old new h = absurd h
+told_shows done text shown Spent desk old new h = absurd h
 
 pub flat_shows : (ir : Ir) → IsWellFormed ir → (status : Status) (desk : Desk) (old new : Option (List ℕ)) → AnswersText (flat_text ir) status desk old new → Shows (Some command.Ir) status desk old new
-flat_shows ir is status desk old new h = told_shows (Some command.Ir) (flat_text ir) (λ d o n e a. (e, (ir, is, a))) status desk old new h
+flat_shows ir is status desk old new h = told_shows (ShowsDone (Some command.Ir)) (flat_text ir) (λ d o n e a. (e, (ir, is, a))) status desk old new h
 
-part_shows : (c : Option Command) (text : List ℕ) → ((desk : Desk) (old new : Option (List ℕ)) → desk ≡ Empty → Appends old new text → Shows c Spent desk old new)
-    → (status : Status) (desk : Desk) (old new : Option (List ℕ)) → AnswersPart text status desk old new → Shows c status desk old new
-part_shows c text shown Spent desk old new h = shown desk old new h.0 h.1
-part_shows c text shown WriteFault desk old new h = tt
-part_shows c text shown ReadFault desk old new h = h
-part_shows c text shown NoMemory desk old new h = h.1
-part_shows c text shown Written desk old new h = absurd h
-part_shows c text shown (Refused r) desk old new h = absurd h
-part_shows c text shown Usage desk old new h = absurd h
+part_shows : (done : Done) (text : List ℕ) → ((desk : Desk) (old new : Option (List ℕ)) → desk ≡ Empty → Appends old new text → done Spent desk old new)
+    → (status : Status) (desk : Desk) (old new : Option (List ℕ)) → AnswersPart text status desk old new → ShowsOr done status desk old new
+part_shows done text shown Spent desk old new h = shown desk old new h.0 h.1
+part_shows done text shown WriteFault desk old new h = tt
+part_shows done text shown ReadFault desk old new h = h
+part_shows done text shown NoMemory desk old new h = h.1
+part_shows done text shown Written desk old new h = absurd h
+part_shows done text shown (Refused r) desk old new h = absurd h
+part_shows done text shown Usage desk old new h = absurd h
 
 central_shows : (limit : ℕ) (b : Accepted) → IsAccepted b → (all : Bool) → all_fit b limit ≡ all → (status : Status) (desk : Desk) (old new : Option (List ℕ)) → Answers (text_due all (central_text b limit)) status desk old new
     → Shows (Some (command.Bundle (Central limit))) status desk old new
-central_shows limit b is true fit status desk old new h = told_shows (Some (command.Bundle (Central limit))) (central_text b limit) (λ d o n e a. (e, (b, is, fit, a))) status desk old new h
-central_shows limit b is false fit status desk old new h = part_shows (Some (command.Bundle (Central limit))) (central_text b limit) (λ d o n e a. (e, (b, is, fit, a))) status desk old new h
+central_shows limit b is true fit status desk old new h = told_shows (ShowsDone (Some (command.Bundle (Central limit)))) (central_text b limit) (λ d o n e a. (e, (b, is, fit, a))) status desk old new h
+central_shows limit b is false fit status desk old new h = part_shows (ShowsDone (Some (command.Bundle (Central limit)))) (central_text b limit) (λ d o n e a. (e, (b, is, fit, a))) status desk old new h
 
-world_shows : (o : Opening) (limit : ℕ) (status : Status) (desk : Desk) (old new : Option (List ℕ)) → AnswersWorld report o limit status desk old new → Shows (Some (simulation limit)) status desk old new
+world_shows : (o : Opening) (limit : ℕ) (status : Status) (desk : Desk) (old new : Option (List ℕ)) → AnswersWorld report By_chooser o limit status desk old new → Shows (Some (simulation limit)) status desk old new
 world_shows o limit Written Empty old new h = absurd h
-world_shows o limit Written (Open w) old new h = (h.0.limit_is, h.0.chosen, h.1, h.2)
+world_shows o limit Written (Open w) old new h = (h.0.limit_is, h.0.made, h.1, h.2)
 world_shows o limit Spent Empty old new h = absurd h
-world_shows o limit Spent (Open w) old new h = (h.0.limit_is, h.0.chosen, h.1, h.2)
+world_shows o limit Spent (Open w) old new h = (h.0.limit_is, h.0.made, h.1, h.2)
 world_shows o limit WriteFault desk old new h = tt
 world_shows o limit ReadFault desk old new h = h
 world_shows o limit NoMemory desk old new h = h.1
 world_shows o limit (Refused r) desk old new h = absurd h
 world_shows o limit Usage desk old new h = absurd h
 
-pub made_shows : (n : ℕ) (status : Status) (desk : Desk) (old new : Option (List ℕ)) → AnswersWorld (made_text n) (made_opening n) 1000000 status desk old new → Shows (Some (command.Make n)) status desk old new
+pub made_shows : (n : ℕ) (status : Status) (desk : Desk) (old new : Option (List ℕ)) → AnswersWorld (made_text n) By_chooser (made_opening n) 1000000 status desk old new → Shows (Some (command.Make n)) status desk old new
 made_shows n Written desk old new h = h
 made_shows n Spent desk old new h = h
 made_shows n WriteFault desk old new h = tt
@@ -141,14 +144,14 @@ made_shows n (Refused r) desk old new h = absurd h
 made_shows n Usage desk old new h = absurd h
 
 -- whatever the bytes are
-pub made_due : (n : ℕ) (left : Option (List ℕ)) (status : Status) (desk : Desk) (old new : Option (List ℕ)) → AnswersWorld (made_text n) (made_opening n) 1000000 status desk old new
+pub made_due : (n : ℕ) (left : Option (List ℕ)) (status : Status) (desk : Desk) (old new : Option (List ℕ)) → AnswersWorld (made_text n) By_chooser (made_opening n) 1000000 status desk old new
     → IfSome left (λ bytes. Answers (due_words (Some (command.Make n)) bytes) status desk old new)
 made_due n None status desk old new h = tt
 made_due n (Some bytes) status desk old new h = h
 
 pub bundle_shows : (c : BundleCommand) (b : Accepted) → IsAccepted b → (status : Status) (desk : Desk) (old new : Option (List ℕ)) → Answers (due_bundle c b) status desk old new → Shows (Some (command.Bundle c)) status desk old new
-bundle_shows Validate b is status desk old new h = told_shows (Some (command.Bundle Validate)) (valid_text b) (λ d o n e a. (e, (b, is, a))) status desk old new h
-bundle_shows Compile b is status desk old new h = told_shows (Some (command.Bundle Compile)) (compiled_text b) (λ d o n e a. (e, (b, is, a))) status desk old new h
+bundle_shows Validate b is status desk old new h = told_shows (ShowsDone (Some (command.Bundle Validate))) (valid_text b) (λ d o n e a. (e, (b, is, a))) status desk old new h
+bundle_shows Compile b is status desk old new h = told_shows (ShowsDone (Some (command.Bundle Compile))) (compiled_text b) (λ d o n e a. (e, (b, is, a))) status desk old new h
 bundle_shows (Central limit) b is status desk old new h = central_shows limit b is (all_fit b limit) refl status desk old new h
 bundle_shows (Simulate limit) b is status desk old new h = world_shows (opening_of b) limit status desk old new h
 
@@ -207,16 +210,16 @@ untaken_central : (all : Bool) (text : List ℕ) (status : Status) (desk : Desk)
 untaken_central true text status desk old new s d k = untaken_text text status desk old new s d k
 untaken_central false text status desk old new s d k = untaken_part text status desk old new s d k
 
-untaken_world : (told : Past → List ℕ) (o : Opening) (limit : ℕ) (status : Status) (desk : Desk) (old new : Option (List ℕ)) → (status ≡ ReadFault) ⊎ (status ≡ NoMemory) → desk ≡ Empty → Keeps old new → AnswersWorld told o limit status desk old new
-untaken_world told o limit status desk old new (inl e) d k = subst (λ s. AnswersWorld told o limit s desk old new) (sym e) (d, k)
-untaken_world told o limit status desk old new (inr e) d k = subst (λ s. AnswersWorld told o limit s desk old new) (sym e) (inl d, k)
+untaken_world : (told : Trace → List ℕ) (maker : Maker) (o : Opening) (limit : ℕ) (status : Status) (desk : Desk) (old new : Option (List ℕ)) → (status ≡ ReadFault) ⊎ (status ≡ NoMemory) → desk ≡ Empty → Keeps old new → AnswersWorld told maker o limit status desk old new
+untaken_world told maker o limit status desk old new (inl e) d k = subst (λ s. AnswersWorld told maker o limit s desk old new) (sym e) (d, k)
+untaken_world told maker o limit status desk old new (inr e) d k = subst (λ s. AnswersWorld told maker o limit s desk old new) (sym e) (inl d, k)
 
 untaken_judged : (c : BundleCommand) (due : Result Accepted Refusal) (status : Status) (desk : Desk) (old new : Option (List ℕ)) → (status ≡ ReadFault) ⊎ (status ≡ NoMemory) → desk ≡ Empty → Keeps old new → Answers (due_judged c due) status desk old new
 untaken_judged c (Err r) status desk old new s d k = untaken_due r status desk old new s d k
 untaken_judged Validate (Ok b) status desk old new s d k = untaken_text (valid_text b) status desk old new s d k
 untaken_judged Compile (Ok b) status desk old new s d k = untaken_text (compiled_text b) status desk old new s d k
 untaken_judged (Central limit) (Ok b) status desk old new s d k = untaken_central (all_fit b limit) (central_text b limit) status desk old new s d k
-untaken_judged (Simulate limit) (Ok b) status desk old new s d k = untaken_world report (opening_of b) limit status desk old new s d k
+untaken_judged (Simulate limit) (Ok b) status desk old new s d k = untaken_world report By_chooser (opening_of b) limit status desk old new s d k
 
 -- what is told of flat code that was judged is due
 pub judged_due : (made : Result Ir Refusal) (bytes : List ℕ) (status : Status) (desk : Desk) (old new : Option (List ℕ)) → JudgesFlat made bytes → AnswersJudged made status desk old new → AnswersFlat bytes status desk old new
@@ -242,10 +245,13 @@ untaken_flat_due (take.Refused r) bytes status desk old new t h = judged_due (Er
 untaken_flat_due take.Fault bytes status desk old new t h = subst (λ s. AnswersFlat bytes s desk old new) (sym h.0) (h.1, h.2)
 untaken_flat_due take.NoMemory bytes status desk old new t h = subst (λ s. AnswersFlat bytes s desk old new) (sym h.0) (h.1, h.2)
 
+untaken_tells : (done : Done) (e : TakeError) (status : Status) (desk : Desk) (old new : Option (List ℕ)) → AnswersUntaken e status desk old new → ShowsOr done status desk old new
+untaken_tells done (take.Refused r) status desk old new h = refusal_tells done r status desk old new h
+untaken_tells done take.Fault status desk old new h = subst (λ s. ShowsOr done s desk old new) (sym h.0) (h.1, h.2)
+untaken_tells done take.NoMemory status desk old new h = subst (λ s. ShowsOr done s desk old new) (sym h.0) h.2
+
 pub untaken_shows : (c : Option Command) (e : TakeError) (status : Status) (desk : Desk) (old new : Option (List ℕ)) → AnswersUntaken e status desk old new → Shows c status desk old new
-untaken_shows c (take.Refused r) status desk old new h = refusal_shows c r status desk old new h
-untaken_shows c take.Fault status desk old new h = subst (λ s. Shows c s desk old new) (sym h.0) (h.1, h.2)
-untaken_shows c take.NoMemory status desk old new h = subst (λ s. Shows c s desk old new) (sym h.0) h.2
+untaken_shows c = untaken_tells (ShowsDone c)
 
 pub untaken_ends : (A : Type 0) (e : TakeError) (status : Status) (desk : Desk) (old new left : Option (List ℕ)) → AnswersUntaken e status desk old new → TakesAll {A = A} (Err e) left → EndsRead status left
 untaken_ends A (take.Refused r) status desk old new left h t = refusal_ends r status desk old new left h t
@@ -254,23 +260,46 @@ untaken_ends A take.NoMemory status desk old new left h t = subst (λ s. EndsRea
 
 -- ---------------------------------------------------------------- a world that has settled
 
-module _ (told : Past → List ℕ) (o : Opening) (limit : ℕ) (p : Past) (result : Status) (desk : Desk) (old new : Option (List ℕ)) (text : List ℕ) (world : IsWorldOf o limit p)
+module _ (told : Trace → List ℕ) (maker : Maker) (o : Opening) (limit : ℕ) (p : Trace) (result : Status) (desk : Desk) (old new : Option (List ℕ)) (text : List ℕ) (world : IsWorldOf maker o limit p)
     (laid : desk ≡ Open p) (is_told : text ≡ told p) where
-  failed : IsDrained p ⊎ IsSpent p → (result ≡ WriteFault) × TookFront old new text → AnswersWorld told o limit result desk old new
+  failed : IsDrained p ⊎ IsSpent p → (result ≡ WriteFault) × TookFront old new text → AnswersWorld told maker o limit result desk old new
   failed why h =
-      subst (λ z. AnswersWorld told o limit z desk old new) (sym h.0)
-      (subst (λ z. AnswersWorld told o limit WriteFault z old new) (sym laid) (world, why, subst (TookFront old new) is_told h.1))
+      subst (λ z. AnswersWorld told maker o limit z desk old new) (sym h.0)
+      (subst (λ z. AnswersWorld told maker o limit WriteFault z old new) (sym laid) (world, why, subst (TookFront old new) is_told h.1))
 
   -- no event may happen there, and it is told
-  pub drained_told : IsDrained p → Wrote old new text Written result → AnswersWorld told o limit result desk old new
+  pub drained_told : IsDrained p → Wrote old new text Written result → AnswersWorld told maker o limit result desk old new
   drained_told drained (inl h) =
-      subst (λ z. AnswersWorld told o limit z desk old new) (sym h.0)
-      (subst (λ z. AnswersWorld told o limit Written z old new) (sym laid) (world, drained, subst (Appends old new) is_told h.1))
+      subst (λ z. AnswersWorld told maker o limit z desk old new) (sym h.0)
+      (subst (λ z. AnswersWorld told maker o limit Written z old new) (sym laid) (world, drained, subst (Appends old new) is_told h.1))
   drained_told drained (inr h) = failed (inl drained) h
 
   -- its history is full, and it is told
-  pub spent_told : IsSpent p → Wrote old new text Spent result → AnswersWorld told o limit result desk old new
+  pub spent_told : IsSpent p → Wrote old new text Spent result → AnswersWorld told maker o limit result desk old new
   spent_told spent (inl h) =
-      subst (λ z. AnswersWorld told o limit z desk old new) (sym h.0)
-      (subst (λ z. AnswersWorld told o limit Spent z old new) (sym laid) (world, spent, subst (Appends old new) is_told h.1))
+      subst (λ z. AnswersWorld told maker o limit z desk old new) (sym h.0)
+      (subst (λ z. AnswersWorld told maker o limit Spent z old new) (sym laid) (world, spent, subst (Appends old new) is_told h.1))
   spent_told spent (inr h) = failed (inr spent) h
+
+-- ---------------------------------------------------------------- who made the events
+
+-- events that are the chooser's where all before were, and that the plan allowed, are made as they were before
+pub made_on : (maker : Maker) (p q r : Trace) → (IsChosen p → IsChosen q) → IsObeying q → r ≡ q → IsMadeBy maker p → IsMadeBy maker r
+made_on By_chooser p q r chosen obeying same h = subst IsChosen (sym same) (chosen h)
+made_on By_workers p q r chosen obeying same h = subst IsObeying (sym same) obeying
+
+-- the world that has settled
+pub settled_world : (maker : Maker) (p q r : Trace) → q.opening ≡ p.opening → q.limit ≡ p.limit → (IsChosen p → IsChosen q) → IsObeying q → r ≡ q → IsMadeBy maker p → IsWorldOf maker p.opening p.limit r
+settled_world maker p q r opening limit chosen obeying same h = record {
+  opening = ap (λ (z : Trace). z.opening) same ∙ opening;
+  limit_is = ap (λ (z : Trace). z.limit) same ∙ limit;
+  made = made_on maker p q r chosen obeying same h;
+}
+
+-- it is on the desk
+pub on_desk : (P : Trace → Type 0) (desk : Desk) (r : Trace) → desk ≡ Open r → P r → OnDesk desk P
+on_desk P desk r e h = subst (λ d. OnDesk d P) (sym e) h
+
+pub keeps_same : (a : Option (List ℕ)) → Keeps a a
+keeps_same None = tt
+keeps_same (Some xs) = refl

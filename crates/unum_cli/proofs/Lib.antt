@@ -1,3 +1,4 @@
+pub mod Completing
 pub mod Computed
 pub mod Due
 pub mod FlatJudged

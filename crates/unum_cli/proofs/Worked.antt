@@ -3,7 +3,7 @@ use Rattle.std.proofs.Common.{refl, sym, arith}
 use Rattle.std.proofs.lemmas.Bool.{eq-eqb, ne_eqb}
 use Rattle.world_model.specs.AnyCode.World.{objects_with}
 use Rattle.world_plans.specs.Plans.{draw}
-use Rattle.world_plans.specs.Standings.{all_over, standing, crashes_in}
+use Rattle.world_plans.specs.Sessions.{all_over, standing, crashes_in}
 use Rattle.unum_cli.specs.Worked.{Draws, CrashesByRate, TwinsByRate, ListsFirst, Picks, CrashesInTime, Abandons, StaysOpen, Ends, CrashesAndMarks}
 
 pub draws : Draws

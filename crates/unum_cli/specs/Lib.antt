@@ -1,5 +1,6 @@
 pub mod Central
 pub mod Codes
+pub mod Completeness
 pub mod FlatCode
 pub mod Refused
 pub mod Shown

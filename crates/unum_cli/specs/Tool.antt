@@ -13,7 +13,7 @@ use Rattle.bundle_read.specs.declared.refusal.RuleCode.TheVariants.{Reading}
 use Rattle.bundle_read.specs.declared.refusal.Refusal.{Refusal}
 use Rattle.bundle_read.specs.declared.refusal.Refusal.TheVariants.{One}
 use Rattle.unum_world.specs.declared.opening.Opening.{Opening}
-use Rattle.unum_world.specs.Pasts.{Past, IsChosen, IsDrained, IsFull}
+use Rattle.unum_world.specs.Traces.{Trace, IsChosen, IsObeying, IsDrained, IsFull}
 use Rattle.unum_world.specs.Answers.{IsEnabledSome}
 use Rattle.unum_world.specs.Sound.{IsSound}
 use Rattle.unum_cli.specs.declared.commands.Command.{Command}
@@ -41,14 +41,19 @@ Bytes = Vec ℕ Global
 
 -- ---------------------------------------------------------------- what is due
 
+-- who makes the events of a world: the plan's chooser, or workers, as the plan allows
+pub data Maker : Type 0 where
+  By_chooser : Maker
+  By_workers : Maker
+
 -- what is due for some words and bytes: the usage line, a refusal, a text, one that tells all that the limit left room for, the
--- simulation of an opening to a limit and the text of its world, or what is told of bytes as the text of flat code
+-- run of an opening to a limit and the text of its world, or what is told of bytes as the text of flat code
 pub data Due : Type 0 where
   Usage_due : Due
   Refusal_due : Refusal → Due
   Text_due : List ℕ → Due
   Part_due : List ℕ → Due
-  World_due : (told : Past → List ℕ) → Opening → (limit : ℕ) → Due
+  World_due : (told : Trace → List ℕ) → Maker → Opening → (limit : ℕ) → Due
   Flat_due : (bytes : List ℕ) → Due
 
 -- a text that tells all, or all that the limit left room for
@@ -61,10 +66,10 @@ abbrev pub due_bundle : BundleCommand → Accepted → Due
 due_bundle Validate b = Text_due (valid_text b)
 due_bundle Compile b = Text_due (compiled_text b)
 due_bundle (Central limit) b = text_due (all_fit b limit) (central_text b limit)
-due_bundle (Simulate limit) b = World_due report (opening_of b) limit
+due_bundle (Simulate limit) b = World_due report By_chooser (opening_of b) limit
 
 -- the text of `make`
-abbrev pub made_text : (sessions : ℕ) → Past → List ℕ
+abbrev pub made_text : (sessions : ℕ) → Trace → List ℕ
 made_text n p = codes "made " ++ decimal n ++ codes "\n" ++ totals_line p
 
 -- how the world of a generated bundle begins
@@ -78,7 +83,7 @@ due_judged c (Err r) = Refusal_due r
 abbrev pub due_bytes : Command → List ℕ → Due
 due_bytes (Bundle c) bytes = due_judged c (judged bytes)
 due_bytes Ir bytes = Flat_due bytes
-due_bytes (Make n) bytes = World_due (made_text n) (made_opening n) 1000000
+due_bytes (Make n) bytes = World_due (made_text n) By_chooser (made_opening n) 1000000
 
 abbrev pub due_words : Option Command → List ℕ → Due
 due_words None bytes = Usage_due
@@ -89,18 +94,23 @@ due words bytes = due_words (command words) bytes
 
 -- ---------------------------------------------------------------- answers
 
--- a world of that opening and limit, all of whose events are the chooser's
-pub record IsWorldOf (o : Opening) (limit : ℕ) (p : Past) : Type 0 where
+-- its events were made so
+abbrev pub IsMadeBy : Maker → Trace → Type 0
+IsMadeBy By_chooser p = IsChosen p
+IsMadeBy By_workers p = IsObeying p
+
+-- a world of that opening and limit, whose events were made so
+pub record IsWorldOf (maker : Maker) (o : Opening) (limit : ℕ) (p : Trace) : Type 0 where
   pub opening : p.opening ≡ o
   pub limit_is : p.limit ≡ limit
-  pub chosen : IsChosen p
+  pub made : IsMadeBy maker p
 
 -- the history is full, and some event is enabled
-abbrev pub IsSpent : Past → Type 0
+abbrev pub IsSpent : Trace → Type 0
 IsSpent p = IsEnabledSome p × IsFull p
 
 -- the world on the desk, if there is one
-abbrev pub OnDesk : Desk → (Past → Type 0) → Type 0
+abbrev pub OnDesk : Desk → (Trace → Type 0) → Type 0
 OnDesk Empty P = ⊥
 OnDesk (Open w) P = P w
 
@@ -141,13 +151,13 @@ AnswersPart text NoMemory desk old new = (desk ≡ Empty) × Keeps old new
 AnswersPart text _ desk old new = ⊥
 
 -- the world is on the desk, drained or at its limit, and what is told of it is written
-abbrev pub AnswersWorld : (told : Past → List ℕ) → Opening → (limit : ℕ) → Status → Desk → (old new : Option (List ℕ)) → Type 0
-AnswersWorld told o limit Written desk old new = OnDesk desk (λ p. IsWorldOf o limit p × IsDrained p × Appends old new (told p))
-AnswersWorld told o limit Spent desk old new = OnDesk desk (λ p. IsWorldOf o limit p × IsSpent p × Appends old new (told p))
-AnswersWorld told o limit WriteFault desk old new = OnDesk desk (λ p. IsWorldOf o limit p × (IsDrained p ⊎ IsSpent p) × TookFront old new (told p))
-AnswersWorld told o limit ReadFault desk old new = (desk ≡ Empty) × Keeps old new
-AnswersWorld told o limit NoMemory desk old new = ((desk ≡ Empty) ⊎ OnDesk desk (λ p. IsWorldOf o limit p)) × Keeps old new
-AnswersWorld told o limit _ desk old new = ⊥
+abbrev pub AnswersWorld : (told : Trace → List ℕ) → Maker → Opening → (limit : ℕ) → Status → Desk → (old new : Option (List ℕ)) → Type 0
+AnswersWorld told maker o limit Written desk old new = OnDesk desk (λ p. IsWorldOf maker o limit p × IsDrained p × Appends old new (told p))
+AnswersWorld told maker o limit Spent desk old new = OnDesk desk (λ p. IsWorldOf maker o limit p × IsSpent p × Appends old new (told p))
+AnswersWorld told maker o limit WriteFault desk old new = OnDesk desk (λ p. IsWorldOf maker o limit p × (IsDrained p ⊎ IsSpent p) × TookFront old new (told p))
+AnswersWorld told maker o limit ReadFault desk old new = (desk ≡ Empty) × Keeps old new
+AnswersWorld told maker o limit NoMemory desk old new = ((desk ≡ Empty) ⊎ OnDesk desk (λ p. IsWorldOf maker o limit p)) × Keeps old new
+AnswersWorld told maker o limit _ desk old new = ⊥
 
 -- what is told of flat code that was judged so
 abbrev pub AnswersJudged : Result FlatIr Refusal → Status → Desk → (old new : Option (List ℕ)) → Type 0
@@ -166,7 +176,7 @@ Answers Usage_due status desk old new = AnswersUsage status desk old new
 Answers (Refusal_due r) status desk old new = AnswersRefusal r status desk old new
 Answers (Text_due text) status desk old new = AnswersText text status desk old new
 Answers (Part_due text) status desk old new = AnswersPart text status desk old new
-Answers (World_due told o limit) status desk old new = AnswersWorld told o limit status desk old new
+Answers (World_due told maker o limit) status desk old new = AnswersWorld told maker o limit status desk old new
 Answers (Flat_due bytes) status desk old new = AnswersFlat bytes status desk old new
 
 -- ---------------------------------------------------------------- whatever the bytes were
@@ -180,20 +190,28 @@ ShowsDone (Some (Bundle (Central limit))) Spent desk old new = (desk ≡ Empty) 
 ShowsDone (Some Ir) Written desk old new = (desk ≡ Empty) × ((ir : FlatIr) × IsWellFormed ir × Appends old new (flat_text ir))
 ShowsDone (Some (Bundle (Simulate limit))) Written desk old new = OnDesk desk (λ p. (p.limit ≡ limit) × IsChosen p × IsDrained p × Appends old new (report p))
 ShowsDone (Some (Bundle (Simulate limit))) Spent desk old new = OnDesk desk (λ p. (p.limit ≡ limit) × IsChosen p × IsSpent p × Appends old new (report p))
-ShowsDone (Some (Make n)) Written desk old new = OnDesk desk (λ p. IsWorldOf (made_opening n) 1000000 p × IsDrained p × Appends old new (made_text n p))
-ShowsDone (Some (Make n)) Spent desk old new = OnDesk desk (λ p. IsWorldOf (made_opening n) 1000000 p × IsSpent p × Appends old new (made_text n p))
+ShowsDone (Some (Make n)) Written desk old new = OnDesk desk (λ p. IsWorldOf By_chooser (made_opening n) 1000000 p × IsDrained p × Appends old new (made_text n p))
+ShowsDone (Some (Make n)) Spent desk old new = OnDesk desk (λ p. IsWorldOf By_chooser (made_opening n) 1000000 p × IsSpent p × Appends old new (made_text n p))
 ShowsDone c status desk old new = ⊥
+
+-- what is shown where all is done, or the limit was spent
+abbrev pub Done : Type 1
+Done = Status → Desk → (old new : Option (List ℕ)) → Type 0
 
 -- The text that is written is the one of the answer. After a refusal, the usage line and a read fault the desk is empty, and
 -- after a read fault and want of memory nothing was written.
+abbrev pub ShowsOr : Done → Status → Desk → (old new : Option (List ℕ)) → Type 0
+ShowsOr done Written desk old new = done Written desk old new
+ShowsOr done Spent desk old new = done Spent desk old new
+ShowsOr done (Refused r) desk old new = (desk ≡ Empty) × Appends old new (refusal_text r)
+ShowsOr done Usage desk old new = (desk ≡ Empty) × Appends old new usage_text
+ShowsOr done ReadFault desk old new = (desk ≡ Empty) × Keeps old new
+ShowsOr done NoMemory desk old new = Keeps old new
+ShowsOr done WriteFault desk old new = Unit {0}
+
+-- so of a command
 abbrev pub Shows : Option Command → Status → Desk → (old new : Option (List ℕ)) → Type 0
-Shows c Written desk old new = ShowsDone c Written desk old new
-Shows c Spent desk old new = ShowsDone c Spent desk old new
-Shows c (Refused r) desk old new = (desk ≡ Empty) × Appends old new (refusal_text r)
-Shows c Usage desk old new = (desk ≡ Empty) × Appends old new usage_text
-Shows c ReadFault desk old new = (desk ≡ Empty) × Keeps old new
-Shows c NoMemory desk old new = Keeps old new
-Shows c WriteFault desk old new = Unit {0}
+Shows c = ShowsOr (ShowsDone c)
 
 -- Every checkpoint of the world on the desk, if there is one, belongs to one central run of its session, and so on.
 unfoldable pub HoldsSound : Desk → Type 0

@@ -12,7 +12,7 @@ use Rattle.world_model.specs.World.{Opening}
 use Rattle.world_plans.specs.declared.planning.Plan.{Plan}
 use Rattle.world_plans.specs.Plans.{draw, crash_step, twin, pick}
 use Rattle.world_plans.specs.Chooser.{move_of, turn_of}
-use Rattle.world_plans.specs.Standings.{Ended, Abandoned, StillOpen, standing, totals_of}
+use Rattle.world_plans.specs.Sessions.{Ended, Abandoned, StillOpen, standing, totals_of}
 
 -- ---------------------------------------------------------------- plans
 

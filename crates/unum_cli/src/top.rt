@@ -3,6 +3,7 @@
 ghost use Rattle.std.specs.Prelude.{◌≡◌, ◌≢◌, ◌≤◌, None, Some, IfSome};
 ghost use Rattle.unum_io.specs.Causes.{Rose};
 ghost use Rattle.bundle_read.specs.Judged.{judged};
+ghost use Rattle.unum_cli.specs.Completeness.{Completes, SpendsByCost};
 ghost use Rattle.unum_cli.specs.Words.{command as command_of, IsLimited};
 ghost use Rattle.unum_cli.specs.Tool.{due, due_bundle, due_judged, Answers, AnswersFlat, AnswersUsage, IsOfBundle, Shows, HoldsSound, EndsRead, ReadsAll, ReadsNothing};
 
@@ -11,7 +12,7 @@ use crate::commands::{BundleCommand, Command};
 use crate::taking::{take_bundle, take_flat};
 use crate::texts::{central, compile, tell_flat, validate};
 use crate::words::command;
-use crate::worlds::{make, run};
+use crate::worlds::{make, simulate_bundle};
 use crate::writing::{tell_untaken, tell_usage};
 use bundle_read::Bundle;
 use std::alloc::Global;
@@ -39,7 +40,7 @@ fn carry_out<K: Sink>(
         BundleCommand::Validate => validate(alloc, &bundle, out),
         BundleCommand::Compile => compile(alloc, bundle, out),
         BundleCommand::Central { limit } => central(alloc, &bundle, limit, out),
-        BundleCommand::Simulate { limit } => run(alloc, bundle, limit, out, desk),
+        BundleCommand::Simulate { limit } => simulate_bundle(alloc, bundle, limit, out, desk),
     }
 }
 
@@ -95,7 +96,7 @@ fn with_flat<S: Source, K: Sink>(alloc: Global, source: &mut S, out: &mut K) -> 
 ///
 /// The desk is empty before, and afterwards it holds the world of `simulate` or `make`, unless the answer is Usage, Refused or
 /// ReadFault, or memory ran out before there was one.
-#[tactic(auto, using(crate::proofs::Due::empty_sound, crate::proofs::Due::usage_shows, crate::proofs::Due::made_shows, crate::proofs::Due::made_due))]
+#[tactic(auto, using(crate::proofs::Due::empty_sound, crate::proofs::Due::usage_shows, crate::proofs::Due::made_shows, crate::proofs::Due::made_due, crate::proofs::Completing::told_completes, crate::proofs::Completing::shown_spends, crate::proofs::Completing::made_completes, crate::proofs::Completing::made_leaves))]
 pub fn tool<S: Source, K: Sink>(
     alloc: Global,
     words: &Items<Text>,
@@ -121,6 +122,12 @@ pub fn tool<S: Source, K: Sink>(
     // is that run's; nothing is collected that an unfinished instance still reads; and a session whose invocations are all
     // acknowledged has ended.
     ensures sound { HoldsSound desk.new }
+
+    // Where the plan has no mishaps, the limit is spent only where what the visits of the world's central runs cost so far reaches it;
+    // and where no function looks at its ticket, exactly where what the visits of the sequential runs cost is above it. So of accepted
+    // bytes, and, whatever the bytes were, of the world that `simulate` leaves on the desk and of that of `make`.
+    ensures complete { IfSome (S.left source.old) (λ bytes. Completes (due words.now bytes) result desk.new) }
+    ensures spent { SpendsByCost (command_of words.now) result desk.new }
 
     // Whatever the bytes were, the text is that of the answer, and the source was read to its end, or `make` reads nothing.
     ensures shown { Shows (command_of words.now) result desk.new (K.taken out.old) (K.taken out.new) }

@@ -4,7 +4,8 @@ ghost use Rattle.std.specs.Prelude.{◌≡◌, ◌≤◌, IfOk};
 ghost use Rattle.unum_io.specs.Causes.{Rose};
 ghost use Rattle.unum_world.specs.Openings.{Fits};
 ghost use Rattle.unum_cli.specs.Telling.{told_by};
-ghost use Rattle.unum_cli.specs.Tool.{due_bundle, made_opening, made_text, Answers, AnswersWorld, HoldsSound, IsOfBundle, IsWorldOf, OnDesk};
+ghost use Rattle.unum_world.specs.Traces.{IsChosen};
+ghost use Rattle.unum_cli.specs.Tool.{Maker, By_chooser, due_bundle, made_opening, made_text, Answers, AnswersWorld, HoldsSound, IsMadeBy, IsOfBundle, IsWorldOf, OnDesk};
 
 use crate::answer::{Desk, Status};
 use crate::commands::BundleCommand;
@@ -21,7 +22,7 @@ const LIMIT: u64 = 1_000_000;
 
 /// What is told of a world that has settled.
 #[derive(Clone, Copy)]
-enum Telling {
+pub enum Telling {
     /// Its report.
     Report,
     /// How many sessions were made, and what it counts.
@@ -52,7 +53,7 @@ fn text_of(alloc: Global, telling: Telling, world: &World) -> Result<Text, NoMem
 
 /// Leaves a world on the desk.
 #[tactic(auto, unfolding(crate::specs::Tool::HoldsSound))]
-fn lay(desk: &mut Desk, world: World)
+pub fn lay(desk: &mut Desk, world: World)
     ensures laid { desk.new ≡ Desk.Open world }
     ensures sound { HoldsSound desk.new }
 {
@@ -61,21 +62,21 @@ fn lay(desk: &mut Desk, world: World)
 }
 
 /// Settles a world and writes what is told of it. The world is left on the desk, also where memory ran out on the way.
-fn settle_on<K: Sink>(
+pub fn settle_on<K: Sink>(
     alloc: Global,
     mut planned: Planned,
     telling: Telling,
     out: &mut K,
     desk: &mut Desk,
 ) -> Status
-    ensures told { AnswersWorld (told_by telling) planned.opening planned.limit result desk.new (K.taken out.old) (K.taken out.new) }
-    ensures laid { OnDesk desk.new (IsWorldOf planned.opening planned.limit) }
+    ensures told { (maker : Maker) → IsMadeBy maker planned → AnswersWorld (told_by telling) maker planned.opening planned.limit result desk.new (K.taken out.old) (K.taken out.new) }
+    ensures laid { (maker : Maker) → IsMadeBy maker planned → OnDesk desk.new (IsWorldOf maker planned.opening planned.limit) }
     ensures only { IsOfBundle result }
     ensures sound { HoldsSound desk.new }
     ensures later { K.faults out.old ≤ K.faults out.new }
     ensures cause { result ≡ Status.WriteFault → Rose (K.faults out.old) (K.faults out.new) }
 {
-    let settled = planned.settle(alloc);
+    let settled = planned.settle();
     let world = planned.into_world();
     let Ok(settled) = settled else {
         lay(desk, world);
@@ -105,7 +106,7 @@ fn simulate<K: Sink>(
     requires empty { desk.old ≡ Desk.Empty }
     requires fits { Fits opening }
     requires limited { limit ≤ 10000000 }
-    ensures told { AnswersWorld (told_by telling) opening limit result desk.new (K.taken out.old) (K.taken out.new) }
+    ensures told { AnswersWorld (told_by telling) By_chooser opening limit result desk.new (K.taken out.old) (K.taken out.new) }
     ensures only { IsOfBundle result }
     ensures sound { HoldsSound desk.new }
     ensures later { K.faults out.old ≤ K.faults out.new }
@@ -119,7 +120,7 @@ fn simulate<K: Sink>(
 
 /// Simulates the world of a bundle.
 #[tactic(auto, using(crate::proofs::Due::empty_sound))]
-pub fn run<K: Sink>(
+pub fn simulate_bundle<K: Sink>(
     alloc: Global,
     bundle: Bundle,
     limit: u64,
@@ -145,7 +146,7 @@ pub fn run<K: Sink>(
 pub fn make<K: Sink>(alloc: Global, sessions: u32, out: &mut K, desk: &mut Desk) -> Status
     requires empty { desk.old ≡ Desk.Empty }
     requires few { sessions ≤ 1000 }
-    ensures told { AnswersWorld (made_text sessions) (made_opening sessions) 1000000 result desk.new (K.taken out.old) (K.taken out.new) }
+    ensures told { AnswersWorld (made_text sessions) By_chooser (made_opening sessions) 1000000 result desk.new (K.taken out.old) (K.taken out.new) }
     ensures only { IsOfBundle result }
     ensures sound { HoldsSound desk.new }
     ensures later { K.faults out.old ≤ K.faults out.new }

@@ -19,6 +19,8 @@ use world_types::{Op, Reply};
 /// The objects and the queue, which all instances share.
 #[derive(Drop)]
 pub struct Hub {
+    /// Where copies of what is held are made.
+    pub alloc: Global,
     /// Checkpoints, outcomes, saved data and bitmaps by their names.
     pub store: Store,
     /// Messages and their attempts.
@@ -32,6 +34,7 @@ impl Hub {
         ensures queue { result.queue ≡ record { invs = []; states = []; atts = [] } }
     {
         Hub {
+            alloc,
             store: Store::new(alloc),
             queue: Queue::new(alloc),
         }
@@ -39,12 +42,7 @@ impl Hub {
 
     /// Does an operation of an attempt, at once or not at all, and answers its reply. Objects and reply are those of the world's
     /// definitions. The only error is want of memory, and nothing has changed then.
-    pub fn apply(
-        &mut self,
-        alloc: Global,
-        attempt: u32,
-        op: Op<u32, Bitmap>,
-    ) -> Result<Reply<Bitmap>, NoMemory>
+    pub fn apply(&mut self, attempt: u32, op: Op<u32, Bitmap>) -> Result<Reply<Bitmap>, NoMemory>
         requires { IsFit self.old.queue attempt op }
         ensures objects { OnOk result (objects_of self.new.store ≡ objects_after flags (objects_of self.old.store) op) }
         ensures queue { OnOk result (self.new.queue ≡ queue_after self.old.queue attempt op) }
@@ -53,8 +51,8 @@ impl Hub {
         ensures memory { OnErr result (MayTakeMemory (objects_of self.old.store) op) }
     {
         match op {
-            Op::Look(object) => look_at(alloc, self.store.look(&object)),
-            Op::Create(object, held) => create_in(alloc, &mut self.store, &object, held),
+            Op::Look(object) => look_at(self.alloc, self.store.look(&object)),
+            Op::Create(object, held) => create_in(self.alloc, &mut self.store, &object, held),
             Op::Set {
                 place,
                 index,

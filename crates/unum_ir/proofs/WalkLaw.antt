@@ -4,9 +4,9 @@ use Rattle.std.proofs.lemmas.Bool.{cases_lt}
 use Rattle.asl_model.specs.Data.{Json, failure, hop_limit_error}
 use Rattle.asl_model.specs.Central.{hop_limit}
 use Rattle.asl_model.specs.Head.{Used, BegunOf, begins}
-use Rattle.unum_ir.specs.declared.walking.Step.{Step}
+use Rattle.unum_ir.specs.declared.walks.Step.{Step}
 use Rattle.unum_ir.specs.Flat.{Ir, Node, EndsWith, head_of, node_at, name_in, used_by, flat_by, flat_in, first_flat, flat}
-use Rattle.unum_ir.specs.Walking.{Going, step_go, StepIs}
+use Rattle.unum_ir.specs.Walk.{Going, step_go, StepIs}
 
 limit_is : hop_limit ≡ 2000
 unfolding hop_limit

@@ -6,5 +6,5 @@ pub mod Given
 pub mod Views
 pub mod Kinds
 pub mod Finishing
-pub mod Walking
+pub mod Walk
 pub mod Forming

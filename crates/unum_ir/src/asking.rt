@@ -10,7 +10,7 @@ use crate::beginning::begin;
 use crate::combining::put_together;
 use crate::ir::{Func, Ir, Node, Op};
 use crate::onward::Begun;
-use crate::walking::{name_in, node_at};
+use crate::walks::{name_in, node_at};
 use std::alloc::Global;
 use unum_json::{Items, Json, NoMemory, Outcome, Text, copy};
 

@@ -21,7 +21,7 @@ mod rules;
 mod scope_tests;
 mod stop;
 mod trouble;
-mod walking;
+mod walks;
 mod well_formed;
 
 pub use asking::{combine, effective, enter_of, input_of, parent_of, resource_of, retriers, width};
@@ -35,5 +35,5 @@ pub use matching::{match_error, retry};
 pub use onward::{Begun, Onward, Used};
 pub use stop::{Child, Stop};
 pub use trouble::{FlowError, StateError};
-pub use walking::{resume, walk};
+pub use walks::{resume, walk};
 pub use well_formed::is_well_formed;

@@ -10,7 +10,7 @@ ghost use Rattle.unum_ir.specs.Flat.{Node as NodeSeen, NodeRule as RuleSeen, Nod
 ghost use Rattle.unum_ir.specs.WellFormed.{is_node_in, is_before, are_in_order, nodes_follow, nexts_fit, starts_fit, are_apart, names_fit, name_of};
 
 use crate::ir::{Ir, Node, NodeCare, NodeCatcher, NodeRule, Op};
-use crate::walking::node_at;
+use crate::walks::node_at;
 use asl_valid::is_misnamed;
 use std::cmp::Ordering;
 use unum_json::{Items, Text};

@@ -14,14 +14,14 @@ use Rattle.world_plans.specs.Changes.{inv_at}
 use Rattle.invoke_queue.specs.Numbers.{NumberSet}
 use Rattle.invoke_queue.specs.Queue.{Lists, atts_with, with_attempt, attempt_at, attempt_after_move}
 use Rattle.unum_world.specs.declared.opening.Opening.{Opening}
-use Rattle.unum_world.specs.declared.moment.Moment.{Moment}
+use Rattle.unum_world.specs.declared.world_state.WorldState.{WorldState}
 use Rattle.unum_world.specs.Openings.{codes_of}
-use Rattle.unum_world.specs.Pasts.{world_of}
+use Rattle.unum_world.specs.Traces.{world_of}
 use Rattle.unum_world.specs.Calls.{function_call, outcome_of, call_in}
-use Rattle.unum_world.specs.Keeping.{Keeps, Holds}
+use Rattle.unum_world.specs.Kept.{Keeps, Holds}
 use Rattle.unum_world.specs.Instances.{Runs, CanAnswer, next_at, outcome_at, queue_answered}
 use Rattle.unum_world.proofs.Parts.{answer_is, answered_is}
-use Rattle.unum_world.proofs.Events.{from_queue, room_stays, ArePut}
+use Rattle.unum_world.proofs.EventEffects.{from_queue, room_stays, ArePut}
 use Rattle.unum_world.proofs.StopLists.{stops_stay, set_at}
 use Rattle.unum_world.proofs.TwinLists.{twins_follow}
 use Rattle.unum_world.proofs.Givens.{next_is, asks_answer}
@@ -93,7 +93,7 @@ pub no_outcome : (table : Table) (ir : Ir) (i : Invocation ℕ) (q : Lists) (a :
     ((resource : Text) (x : Json) → d ≡ Ask resource x → ⊥) → d ≡ next_at ir i q a → outcome_at table ir i q a ≡ None
 no_outcome table ir i q a d h e = ap (λ z. outcome_of (call_in table a z)) (sym e) ∙ none_asked table a d h
 
-module _ (o : Opening) (m n : Moment) (h : Holds o m) (a inv : ℕ) (i : Invocation ℕ) (ir : Ir) (r : Runs o m a inv i ir)
+module _ (o : Opening) (m n : WorldState) (h : Holds o m) (a inv : ℕ) (i : Invocation ℕ) (ir : Ir) (r : Runs o m a inv i ir)
     (e : enabled (codes_of o) (world_of o m) (Answer a) ≡ true) where
   abbrev q : Lists
   q = m.hub.queue

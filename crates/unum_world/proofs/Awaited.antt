@@ -6,10 +6,10 @@ use Rattle.world_model.specs.AnyCode.Operations.{Invocation}
 use Rattle.world_model.specs.AnyCode.Program.{Doing, Do, Ask, Nothing, next_of}
 use Rattle.world_model.specs.AnyCode.World.{Answer, code_of, att_lets, is_ask, enabled}
 use Rattle.unum_world.specs.declared.opening.Opening.{Opening}
-use Rattle.unum_world.specs.declared.moment.Moment.{Moment}
+use Rattle.unum_world.specs.declared.world_state.WorldState.{WorldState}
 use Rattle.unum_world.specs.Openings.{codes_of}
-use Rattle.unum_world.specs.Pasts.{world_of}
-use Rattle.unum_world.specs.Keeping.{Holds}
+use Rattle.unum_world.specs.Traces.{world_of}
+use Rattle.unum_world.specs.Kept.{Holds}
 use Rattle.unum_world.specs.Instances.{Runs, next_at}
 use Rattle.unum_world.proofs.Givens.{next_is}
 
@@ -27,7 +27,7 @@ and_true : (a b : Bool) → a && b ≡ true → b ≡ true
 and_true true b e = e
 and_true false b e = absurd (cc)
 
-module _ (o : Opening) (m : Moment) (h : Holds o m) (a inv : ℕ) (i : Invocation ℕ) (ir : Ir) (r : Runs o m a inv i ir) where
+module _ (o : Opening) (m : WorldState) (h : Holds o m) (a inv : ℕ) (i : Invocation ℕ) (ir : Ir) (r : Runs o m a inv i ir) where
   -- what an attempt does next is the call of a function, where it may be answered
   pub asks : enabled (codes_of o) (world_of o m) (Answer a) ≡ true → is_ask (next_at ir i m.hub.queue a) ≡ true
   unfolding enabled

@@ -12,7 +12,7 @@ use Rattle.world_model.specs.World as model
 use Rattle.world_model.specs.Numbered.{Numbered, first_number}
 use Rattle.world_model.proofs.Gets.{get_pushed, get_set}
 use Rattle.world_model.proofs.Queues.{Cases, by_event}
-use Rattle.unum_world.specs.Keeping.{IsBounded}
+use Rattle.unum_world.specs.Kept.{IsBounded}
 use Rattle.unum_world.proofs.Runs.{run_counts}
 
 -- no attempt made more steps
@@ -119,7 +119,7 @@ unfolding root_invs
 roots_many s [] = refl
 roots_many s (x ∷ xs) = ap suc (roots_many (suc s) xs)
 
-start_bounded : (o : model.Opening) → IsBounded (length o.sessions) (start first_number o)
+pub start_bounded : (o : model.Opening) → IsBounded (length o.sessions) (start first_number o)
 start_bounded o = record {
   invs = let k = roots_many 0 o.sessions in omega (arith, k);
   atts = omega arith;

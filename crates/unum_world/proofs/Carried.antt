@@ -21,12 +21,12 @@ use Rattle.unum_hub.specs.Holding.{IsFit, NumberedOp, queue_after}
 use Rattle.fn_wrapper.specs.Actions.{IsCountOfActs}
 use Rattle.fn_wrapper.specs.Ready.{CopiesData}
 use Rattle.unum_world.specs.declared.opening.Opening.{Opening}
-use Rattle.unum_world.specs.declared.moment.Moment.{Moment}
-use Rattle.unum_world.specs.declared.preparing.Prepared.{Prepared}
+use Rattle.unum_world.specs.declared.world_state.WorldState.{WorldState}
+use Rattle.unum_world.specs.declared.prepared.Prepared.{Prepared}
 use Rattle.unum_world.specs.Openings.{opening_as, codes_of}
-use Rattle.unum_world.specs.Pasts.{world_of}
+use Rattle.unum_world.specs.Traces.{world_of}
 use Rattle.unum_world.specs.OneStep.{is_won, entries_won, one_mark, inv_of_op, messages_after, phase_acts, stops_with, op_takes_memory, doing_takes_memory, inv_takes_memory, att_takes_memory, takes_memory}
-use Rattle.unum_world.specs.Keeping.{ChangesRoom, Keeps, Holds, twins_with}
+use Rattle.unum_world.specs.Kept.{ChangesRoom, Keeps, Holds, twins_with}
 use Rattle.unum_world.specs.Instances.{Runs, CanMove, IsDo, IsPrepared, MayAdopt, doing_at, next_at, queue_moved, queue_operated, adopted_stop}
 use Rattle.unum_world.proofs.Parts.{world_from}
 use Rattle.unum_world.proofs.TwinLists.{twins_stay}
@@ -37,7 +37,7 @@ use Rattle.unum_world.proofs.OneSteps.{may_step, messages_are, step_world, step_
 
 -- ---------------------------------------------------------------- where nothing changes but room in lists
 
-module _ (o : Opening) (m n : Moment) where
+module _ (o : Opening) (m n : WorldState) where
   pub same_world : objects_of n.hub.store ≡ objects_of m.hub.store → n.hub.queue ≡ m.hub.queue → n.journal.items ≡ m.journal.items →
       n.marks ≡ m.marks → world_of o n ≡ world_of o m
   same_world a b c d =
@@ -62,7 +62,7 @@ module _ (o : Opening) (m n : Moment) where
   room_keeps k c = same_keeps k (room_world c) (ap (λ (x : Hub). x.queue) c.hub) c.stops c.numbers c.room
 
 -- the same where an operation was refused after that
-module _ (o : Opening) (m p n : Moment) (c : ChangesRoom m p) (objects : objects_of n.hub.store ≡ objects_of p.hub.store)
+module _ (o : Opening) (m p n : WorldState) (c : ChangesRoom m p) (objects : objects_of n.hub.store ≡ objects_of p.hub.store)
     (queue : n.hub.queue ≡ p.hub.queue) where
   pub refused_world : n.journal.items ≡ p.journal.items → n.marks ≡ p.marks → world_of o n ≡ world_of o m
   refused_world j k =
@@ -106,7 +106,7 @@ operation_in Nothing e = absurd (cc)
 
 -- ---------------------------------------------------------------- a step
 
-module _ (o : Opening) (m : Moment) (h : Holds o m) (a inv : ℕ) (i : Invocation ℕ) (ir : Ir) (r : Runs o m a inv i ir) where
+module _ (o : Opening) (m : WorldState) (h : Holds o m) (a inv : ℕ) (i : Invocation ℕ) (ir : Ir) (r : Runs o m a inv i ir) where
   abbrev q : Lists
   q = m.hub.queue
 
@@ -142,7 +142,7 @@ module _ (o : Opening) (m : Moment) (h : Holds o m) (a inv : ℕ) (i : Invocatio
       | inr e ↦ e
     ]
 
-    module _ (p : Moment) (c : ChangesRoom m p) where
+    module _ (p : WorldState) (c : ChangesRoom m p) where
       pub still_fit : IsFit p.hub.queue a op
       still_fit = subst (λ (x : Hub). IsFit x.queue a op) (sym c.hub) (fit_at o m h a inv i ir r op d)
 
@@ -171,7 +171,7 @@ module _ (o : Opening) (m : Moment) (h : Holds o m) (a inv : ℕ) (i : Invocatio
             (inv_below op (length q.invs) inv p.twins.room (subst (λ z. z < length q.invs) (sym r.inv_is) b) l)
 
         -- all has changed
-        module _ (not_ack : op ≢ Ack) (x : Hub) (n : Moment) (won : Bool)
+        module _ (not_ack : op ≢ Ack) (x : Hub) (n : WorldState) (won : Bool)
             (objects : objects_of x.store ≡ objects_after flags (objects_of p.hub.store) op) (queue : x.queue ≡ queue_operated ir i p.hub a op)
             (won_is : won ≡ is_won (reply_to flags (objects_of p.hub.store) op)) (hub : n.hub ≡ x) where
           abbrev adopted : Option (Stop ℕ)

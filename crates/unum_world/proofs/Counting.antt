@@ -8,10 +8,10 @@ use Rattle.world_plans.specs.Three.{numbers_from, is_open, twin_numbers, living_
 use Rattle.world_plans.proofs.ThreeLists.{in_three}
 use Rattle.invoke_queue.specs.Queue.{live_numbers, open_numbers}
 use Rattle.unum_world.specs.declared.opening.Opening.{Opening}
-use Rattle.unum_world.specs.declared.moment.Moment.{Moment}
+use Rattle.unum_world.specs.declared.world_state.WorldState.{WorldState}
 use Rattle.unum_world.specs.Openings.{codes_of}
-use Rattle.unum_world.specs.Pasts.{world_of}
-use Rattle.unum_world.specs.Keeping.{Holds}
+use Rattle.unum_world.specs.Traces.{world_of}
+use Rattle.unum_world.specs.Kept.{Holds}
 
 -- no list of numbers is longer than what they are of
 pub numbers_few : {A : Type 0} (test : ℕ → A → Bool) (k : ℕ) (xs : List A) → length (numbers_from test k xs) ≤ length xs
@@ -24,7 +24,7 @@ numbers_few test k (x ∷ xs) = go (test k x) (numbers_few test (suc k) xs)
     go true h = omega (arith, h)
     go false h = omega (arith, h)
 
-module _ (o : Opening) (m : Moment) (h : Holds o m) where
+module _ (o : Opening) (m : WorldState) (h : Holds o m) where
   three : IsInThree o.plan (codes_of o) (world_of o m)
   three = in_three o.plan (codes_of o) (world_of o m) h.running
 

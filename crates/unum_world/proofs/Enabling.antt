@@ -9,10 +9,10 @@ use Rattle.world_model.specs.AnyCode.World.{Step, Answer, code_of, att_lets, is_
 use Rattle.world_model.specs.Numbered.{Numbered}
 use Rattle.fn_wrapper.specs.Ready.{IsReady, IsAsk}
 use Rattle.unum_world.specs.declared.opening.Opening.{Opening}
-use Rattle.unum_world.specs.declared.moment.Moment.{Moment}
+use Rattle.unum_world.specs.declared.world_state.WorldState.{WorldState}
 use Rattle.unum_world.specs.Openings.{codes_of}
-use Rattle.unum_world.specs.Pasts.{world_of}
-use Rattle.unum_world.specs.Keeping.{Holds}
+use Rattle.unum_world.specs.Traces.{world_of}
+use Rattle.unum_world.specs.Kept.{Holds}
 
 false_is : (b : Bool) → (b ≡ true → ⊥) → b ≡ false
 false_is true h = absurd (h refl)
@@ -34,15 +34,15 @@ answer_by (Ask r x) b h = h.1 tt
 answer_by Nothing b h = false_is b (λ e. h.0 e)
 
 -- an attempt that is not there has neither
-pub none_step : (o : Opening) (m : Moment) (a : ℕ) → slice_get m.hub.queue.atts a ≡ None → false ≡ enabled (codes_of o) (world_of o m) (Step a)
+pub none_step : (o : Opening) (m : WorldState) (a : ℕ) → slice_get m.hub.queue.atts a ≡ None → false ≡ enabled (codes_of o) (world_of o m) (Step a)
 unfolding enabled
 none_step o m a e = ap (att_lets (codes_of o) (world_of o m) is_do) (sym e)
 
-pub none_answer : (o : Opening) (m : Moment) (a : ℕ) → slice_get m.hub.queue.atts a ≡ None → false ≡ enabled (codes_of o) (world_of o m) (Answer a)
+pub none_answer : (o : Opening) (m : WorldState) (a : ℕ) → slice_get m.hub.queue.atts a ≡ None → false ≡ enabled (codes_of o) (world_of o m) (Answer a)
 unfolding enabled
 none_answer o m a e = ap (att_lets (codes_of o) (world_of o m) is_ask) (sym e)
 
-module _ (o : Opening) (m : Moment) (h : Holds o m) (a : ℕ) (t : Attempt) (e : slice_get m.hub.queue.atts a ≡ Some t) where
+module _ (o : Opening) (m : WorldState) (h : Holds o m) (a : ℕ) (t : Attempt) (e : slice_get m.hub.queue.atts a ≡ Some t) where
   abbrev w : Numbered
   w = world_of o m
 

@@ -24,12 +24,12 @@ use Rattle.unum_hub.specs.Holding.{IsFit, NumberedOp}
 use Rattle.fn_wrapper.specs.Actions.{IsCountOfActs}
 use Rattle.fn_wrapper.specs.Ready.{IsReady, IsStopOf}
 use Rattle.unum_world.specs.declared.opening.Opening.{Opening}
-use Rattle.unum_world.specs.declared.moment.Moment.{Moment}
+use Rattle.unum_world.specs.declared.world_state.WorldState.{WorldState}
 use Rattle.unum_world.specs.Openings.{opening_as, codes_of}
-use Rattle.unum_world.specs.Pasts.{world_of}
-use Rattle.unum_world.specs.Keeping.{stop_in, Holds}
+use Rattle.unum_world.specs.Traces.{world_of}
+use Rattle.unum_world.specs.Kept.{stop_in, Holds}
 use Rattle.unum_world.specs.Instances.{HasMessage, IsMessageOf, Runs, CanRun, CanMove, CanAnswer, doing_at, IsDo}
-use Rattle.unum_world.proofs.Standing.{sessions_as}
+use Rattle.unum_world.proofs.TheRun.{sessions_as}
 
 -- ---------------------------------------------------------------- tests
 
@@ -86,7 +86,7 @@ fit_of sessions roles q a (Invoke i) x l v = l
 fit_of sessions roles q a (Mark o) x l v = tt
 fit_of sessions roles q a Ack x l v = v
 
-module _ (o : Opening) (m : Moment) (h : Holds o m) where
+module _ (o : Opening) (m : WorldState) (h : Holds o m) where
   abbrev q : Lists
   q = m.hub.queue
 

@@ -13,20 +13,20 @@ use Rattle.checkpoint_store.specs.Entries.{objects_of}
 use Rattle.unum_hub.specs.Holding.{NumberedOp}
 use Rattle.fn_wrapper.specs.Ready.{IsStopOf}
 use Rattle.unum_world.specs.declared.opening.Opening.{Opening}
-use Rattle.unum_world.specs.declared.moment.Moment.{Moment}
+use Rattle.unum_world.specs.declared.world_state.WorldState.{WorldState}
 use Rattle.unum_world.specs.Openings.{codes_of}
 use Rattle.unum_world.specs.OneStep.{adopted_kept}
-use Rattle.unum_world.specs.Keeping.{HasStops, Holds, stop_in}
+use Rattle.unum_world.specs.Kept.{HasStops, Holds, stop_in}
 use Rattle.unum_world.specs.Instances.{Runs, doing_at, adopted_stop}
 use Rattle.unum_world.proofs.StopLists.{AreStops}
 use Rattle.unum_world.proofs.Adopting.{acting_is}
 
 -- the stops of a world, as lists
-pub are_stops : (o : Opening) (m : Moment) → HasStops o m → AreStops (codes_of o) m.hub.queue.invs m.hub.queue.atts m.stops.items
+pub are_stops : (o : Opening) (m : WorldState) → HasStops o m → AreStops (codes_of o) m.hub.queue.invs m.hub.queue.atts m.stops.items
 are_stops o m h = record { places = h.places; stops_are = h.stops }
 
 -- and back, after an event
-pub has_stops : (o : Opening) (n : Moment) (invs : List (Invocation ℕ)) (atts : List Attempt) (stops : List (Option (Stop ℕ))) →
+pub has_stops : (o : Opening) (n : WorldState) (invs : List (Invocation ℕ)) (atts : List Attempt) (stops : List (Option (Stop ℕ))) →
     AreStops (codes_of o) invs atts stops → n.hub.queue.invs ≡ invs → n.hub.queue.atts ≡ atts → n.stops.items ≡ stops → HasStops o n
 has_stops o n invs atts stops h a b c = record {
   places = ap length c ∙ h.places ∙ sym (ap length b);
@@ -36,7 +36,7 @@ has_stops o n invs atts stops h a b c = record {
 }
 
 -- After a step an attempt acts by the checkpoint that it adopted, whose stop was found, or by its own as before.
-pub step_stops : (o : Opening) (m : Moment) (h : Holds o m) (a inv : ℕ) (i : Invocation ℕ) (ir : Ir) (r : Runs o m a inv i ir) (op : NumberedOp)
+pub step_stops : (o : Opening) (m : WorldState) (h : Holds o m) (a inv : ℕ) (i : Invocation ℕ) (ir : Ir) (r : Runs o m a inv i ir) (op : NumberedOp)
     (k : Kept) (l : ℕ) → doing_at ir i (slice_get m.hub.queue.atts a) ≡ Do op →
     absorb (code_of_ir ir) i a r.att.phase (reply_to flags (objects_of m.hub.store) op) ≡ Acting k l →
     (adopted_stop ir i m (slice_get m.hub.queue.atts a) ≡ Some (stop_of (code_of (codes_of o) i) i k))

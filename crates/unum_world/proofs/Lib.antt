@@ -1,6 +1,7 @@
 pub mod Runs
 pub mod Bounds
-pub mod Standing
+pub mod Costs
+pub mod TheRun
 pub mod Parts
 pub mod Adopting
 pub mod TwinLists
@@ -11,11 +12,16 @@ pub mod Enabling
 pub mod Givens
 pub mod Keeps
 pub mod Journals
-pub mod Events
+pub mod EventEffects
 pub mod Counting
+pub mod Crashes
 pub mod OneSteps
 pub mod Moving
 pub mod Sessions
 pub mod Answered
 pub mod Carried
 pub mod Awaited
+pub mod Dues
+pub mod DueNow
+pub mod Turning
+pub mod OneTrace

@@ -17,9 +17,9 @@ use Rattle.continuation_gen.specs.Coded.{code_of_ir}
 use Rattle.invoke_queue.specs.Queue.{Lists, atts_with, with_attempt, attempt_at, attempt_after_move}
 use Rattle.unum_hub.specs.Holding.{NumberedOp, queue_after}
 use Rattle.fn_wrapper.specs.Actions.{acts_at}
-use Rattle.unum_world.specs.declared.moment.Moment.{Moment}
+use Rattle.unum_world.specs.declared.world_state.WorldState.{WorldState}
 use Rattle.unum_world.specs.OneStep.{is_acting, phase_acts, op_takes_memory}
-use Rattle.unum_world.specs.Keeping.{stop_in}
+use Rattle.unum_world.specs.Kept.{stop_in}
 use Rattle.unum_world.specs.Instances.{CanRun, doing_at, queue_moved, queue_replied, ReadsAt}
 use Rattle.unum_world.proofs.Journals.{reads_take}
 
@@ -120,7 +120,7 @@ acting_of (Acking finished) e = absurd (cc)
 acting_of (AttemptOver finished) e = absurd (cc)
 
 -- An attempt that acts has few acts at the stop that is kept for it.
-pub few_acts : (ir : Ir) (i : Invocation ℕ) (m : Moment) (a : ℕ) (stop : Stop ℕ) → CanRun ir i m a →
+pub few_acts : (ir : Ir) (i : Invocation ℕ) (m : WorldState) (a : ℕ) (stop : Stop ℕ) → CanRun ir i m a →
     phase_acts (slice_get m.hub.queue.atts a) ≡ true → Some stop ≡ stop_in (slice_get m.stops.items a) →
     length (acts_at ir i stop) ≤ MOST_BRANCHES + 1
 few_acts ir i m a stop r e s =

@@ -16,14 +16,14 @@ use Rattle.invoke_queue.specs.Numbers.{NumberSet}
 use Rattle.invoke_queue.specs.Queue.{Lists, atts_with, with_attempt, with_end, attempt_after_move, attempt_after_end}
 use Rattle.unum_hub.specs.Holding.{NumberedOp, queue_after}
 use Rattle.unum_world.specs.declared.opening.Opening.{Opening}
-use Rattle.unum_world.specs.declared.moment.Moment.{Moment}
+use Rattle.unum_world.specs.declared.world_state.WorldState.{WorldState}
 use Rattle.unum_world.specs.Openings.{opening_as, codes_of}
-use Rattle.unum_world.specs.Pasts.{world_of}
+use Rattle.unum_world.specs.Traces.{world_of}
 use Rattle.unum_world.specs.OneStep.{entry_of, is_won, entries_won, one_mark, inv_of_op, messages_after, is_acting, phase_acts, stops_with}
-use Rattle.unum_world.specs.Keeping.{Keeps, Holds}
+use Rattle.unum_world.specs.Kept.{Keeps, Holds}
 use Rattle.unum_world.specs.Instances.{Runs, doing_at, queue_moved, adopted_stop, ReadsAt}
 use Rattle.unum_world.proofs.Parts.{world_from, moved_is, acked_is, step_is}
-use Rattle.unum_world.proofs.Events.{from_queue, room_stays, ArePut}
+use Rattle.unum_world.proofs.EventEffects.{from_queue, room_stays, ArePut}
 use Rattle.unum_world.proofs.StopLists.{stops_end, stops_move, set_at}
 use Rattle.unum_world.proofs.TwinLists.{wants, twins_follow}
 use Rattle.unum_world.proofs.Givens.{next_is}
@@ -65,7 +65,7 @@ inv_by messages states inv w t codes (Set p index count) e f g = g
 inv_by messages states inv w t codes (Mark o) e f g = g
 inv_by messages states inv w t codes Ack e f g = g
 
-module _ (o : Opening) (m n : Moment) (h : Holds o m) (a inv : ℕ) (i : Invocation ℕ) (ir : Ir) (r : Runs o m a inv i ir) (op : NumberedOp)
+module _ (o : Opening) (m n : WorldState) (h : Holds o m) (a inv : ℕ) (i : Invocation ℕ) (ir : Ir) (r : Runs o m a inv i ir) (op : NumberedOp)
     (d : doing_at ir i (slice_get m.hub.queue.atts a) ≡ Do op) where
   abbrev q : Lists
   q = m.hub.queue
@@ -155,7 +155,7 @@ module _ (o : Opening) (m n : Moment) (h : Holds o m) (a inv : ℕ) (i : Invocat
 
 -- ---------------------------------------------------------------- an Ack
 
-module _ (o : Opening) (m : Moment) (h : Holds o m) (a inv : ℕ) (i : Invocation ℕ) (ir : Ir) (r : Runs o m a inv i ir)
+module _ (o : Opening) (m : WorldState) (h : Holds o m) (a inv : ℕ) (i : Invocation ℕ) (ir : Ir) (r : Runs o m a inv i ir)
     (d : doing_at ir i (slice_get m.hub.queue.atts a) ≡ Do Ack) where
   -- who acknowledges reads no data
   pub no_read : ReadsAt (slice_get m.hub.queue.atts a) → ⊥
@@ -185,7 +185,7 @@ module _ (o : Opening) (m : Moment) (h : Holds o m) (a inv : ℕ) (i : Invocatio
     pub still_lives : lives (slice_get p.atts a) ≡ true
     still_lives = ap lives ended_at ∙ r.alive
 
-    module _ (n : Moment) (queue : n.hub.queue ≡ with_end p a state_after_ack (slice_get p.atts a)) where
+    module _ (n : WorldState) (queue : n.hub.queue ≡ with_end p a state_after_ack (slice_get p.atts a)) where
       acked_queue : n.hub.queue ≡ with_end (with_attempt m.hub.queue a (attempt_after_move over)) a state_after_ack (Some ended)
       acked_queue = queue ∙ ap (with_end p a state_after_ack) ended_at ∙ ap (λ z. with_end z a state_after_ack (Some ended)) first_is
 

@@ -24,10 +24,10 @@ use Rattle.invoke_queue.specs.Numbers.{NumberSet}
 use Rattle.continuation_gen.specs.Laws.{AreValid}
 use Rattle.unum_world.specs.declared.opening.Session.{Session}
 use Rattle.unum_world.specs.declared.opening.Opening.{Opening}
-use Rattle.unum_world.specs.declared.moment.Moment.{Moment}
+use Rattle.unum_world.specs.declared.world_state.WorldState.{WorldState}
 use Rattle.unum_world.specs.Openings.{Machines, block_in, session_as, opening_as, AreAllValid, HasMachine, Fits, codes_of}
-use Rattle.unum_world.specs.Pasts.{world_of, opened_world, run_of}
-use Rattle.unum_world.specs.Keeping.{Keeps}
+use Rattle.unum_world.specs.Traces.{world_of, opened_world, run_of}
+use Rattle.unum_world.specs.Kept.{Keeps}
 use Rattle.unum_world.proofs.Bounds.{roots_many}
 
 -- ---------------------------------------------------------------- machines
@@ -117,7 +117,7 @@ no_twins p k [] = refl
 no_twins p k (x ∷ xs) = no_twins p (suc k) xs
 
 -- where nothing is kept yet, all that has to be is kept
-pub opened_keeps : (o : Opening) (m : Moment) → world_of o m ≡ opened_world o → m.stops.items ≡ [] →
+pub opened_keeps : (o : Opening) (m : WorldState) → world_of o m ≡ opened_world o → m.stops.items ≡ [] →
     m.twins ≡ record { numbers = []; room = length o.sessions } → Keeps o m
 opened_keeps o m e s t =
     let atts : m.hub.queue.atts ≡ [] = ap (λ (w : Numbered). w.atts) e in

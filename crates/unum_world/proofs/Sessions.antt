@@ -5,7 +5,7 @@ use Rattle.world_model.specs.AnyCode.Operations.{Invocation}
 use Rattle.world_model.specs.Numbered.{Numbered}
 use Rattle.world_model.specs.World as model
 use Rattle.world_plans.specs.declared.totals.Counts.{Counts}
-use Rattle.world_plans.specs.Standings.{is_over, all_over, standing, counts_with, count_from}
+use Rattle.world_plans.specs.Sessions.{is_over, all_over, standing, counts_with, count_from}
 use Rattle.unum_world.proofs.Opened.{dropped, has_item}
 
 -- ---------------------------------------------------------------- invocations

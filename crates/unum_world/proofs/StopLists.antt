@@ -10,7 +10,7 @@ use Rattle.world_model.specs.AnyCode.World.{Attempt, Codes, code_of}
 use Rattle.world_model.proofs.Gets.{get_pushed_at, get_append, place_of}
 use Rattle.fn_wrapper.specs.Ready.{IsStopOf}
 use Rattle.unum_world.specs.OneStep.{is_acting, stops_with}
-use Rattle.unum_world.specs.Keeping.{stop_in}
+use Rattle.unum_world.specs.Kept.{stop_in}
 
 -- ---------------------------------------------------------------- lists
 

@@ -18,12 +18,12 @@ use Rattle.unum_hub.specs.Holding.{NumberedOp, queue_after}
 use Rattle.fn_wrapper.specs.Actions.{IsCountOfActs}
 use Rattle.fn_wrapper.specs.Ready.{IsReady, IsStopOf, ReadsData}
 use Rattle.unum_world.specs.declared.opening.Opening.{Opening}
-use Rattle.unum_world.specs.declared.moment.Moment.{Moment}
-use Rattle.unum_world.specs.declared.preparing.Prepared.{Prepared}
+use Rattle.unum_world.specs.declared.world_state.WorldState.{WorldState}
+use Rattle.unum_world.specs.declared.prepared.Prepared.{Prepared}
 use Rattle.unum_world.specs.Openings.{opening_as}
 use Rattle.unum_world.specs.Calls.{call_in, outcome_of}
 use Rattle.unum_world.specs.OneStep.{stop_for, entry_of, one_mark, inv_of_op}
-use Rattle.unum_world.specs.Keeping.{stop_in}
+use Rattle.unum_world.specs.Kept.{stop_in}
 
 -- ---------------------------------------------------------------- messages
 
@@ -45,7 +45,7 @@ pub record IsMessageOf (q : Lists) (attempt inv : ℕ) (i : Invocation ℕ) : Ty
 -- ---------------------------------------------------------------- instances
 
 -- the attempt lives, its invocation has that number, and its session runs that flat form
-pub record Runs (o : Opening) (m : Moment) (attempt inv : ℕ) (i : Invocation ℕ) (ir : Ir) : Type 0 where
+pub record Runs (o : Opening) (m : WorldState) (attempt inv : ℕ) (i : Invocation ℕ) (ir : Ir) : Type 0 where
   pub att : Attempt
   pub inv_is : inv ≡ att.inv
   pub placed : IsPlaced m.hub.queue attempt att i
@@ -53,7 +53,7 @@ pub record Runs (o : Opening) (m : Moment) (attempt inv : ℕ) (i : Invocation �
   pub form : ir ≡ flat_form (block_of (opening_as o) i.name.place.session)
 
 -- what is taken as given of an attempt so that what it does next is found
-pub record CanRun (ir : Ir) (i : Invocation ℕ) (m : Moment) (attempt : ℕ) : Type 0 where
+pub record CanRun (ir : Ir) (i : Invocation ℕ) (m : WorldState) (attempt : ℕ) : Type 0 where
   pub att : Attempt
   pub attempt_is : slice_get m.hub.queue.atts attempt ≡ Some att
   pub ready : IsReady (code_of_ir ir) i att.phase
@@ -121,16 +121,16 @@ ReadsAt (Some t) = ReadsData t.phase
 -- ---------------------------------------------------------------- what a step has made first
 
 -- where the scope stops after the checkpoint that the attempt adopts, if it adopts one
-abbrev pub adopted_stop : Ir → Invocation ℕ → Moment → Option Attempt → Option (Stop ℕ)
+abbrev pub adopted_stop : Ir → Invocation ℕ → WorldState → Option Attempt → Option (Stop ℕ)
 adopted_stop ir i m None = None
 adopted_stop ir i m (Some t) = stop_for ir i t.phase (objects_of m.hub.store (Check i.name))
 
 -- the attempt adopts a checkpoint
-abbrev pub MayAdopt : Ir → Invocation ℕ → (attempt : ℕ) → Moment → Type 0
+abbrev pub MayAdopt : Ir → Invocation ℕ → (attempt : ℕ) → WorldState → Type 0
 MayAdopt ir i a m = IsTrue (is_some (adopted_stop ir i m (slice_get m.hub.queue.atts a)))
 
 -- the stop that it adopts, the entry that it may win, 1 for a Mark, and the invocation that the step is of
-pub record IsPrepared (ir : Ir) (i : Invocation ℕ) (attempt inv : ℕ) (op : NumberedOp) (m : Moment) (p : Prepared) : Type 0 where
+pub record IsPrepared (ir : Ir) (i : Invocation ℕ) (attempt inv : ℕ) (op : NumberedOp) (m : WorldState) (p : Prepared) : Type 0 where
   pub stop_is : p.stop ≡ adopted_stop ir i m (slice_get m.hub.queue.atts attempt)
   pub entry_is : p.entry ≡ entry_of op attempt
   pub marks_are : p.marks ≡ one_mark op

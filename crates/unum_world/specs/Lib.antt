@@ -1,8 +1,11 @@
 pub mod Openings
-pub mod Pasts
+pub mod Traces
 pub mod OneStep
-pub mod Keeping
+pub mod Kept
 pub mod Instances
 pub mod Calls
-pub mod Sound
 pub mod Answers
+pub mod Cost
+pub mod Sound
+pub mod Turns
+pub mod AllCrash

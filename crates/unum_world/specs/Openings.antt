@@ -9,6 +9,7 @@ use Rattle.asl_model.specs.Valid.{IsValid}
 use Rattle.asl_model.specs.Walked.{HasRisingNames}
 use Rattle.world_model.specs.AnyCode.World.{Codes}
 use Rattle.world_model.specs.World as model
+use Rattle.calm_worlds.specs.Cost.{HasFunctions}
 use Rattle.continuation_gen.specs.Laws.{ir_codes}
 use Rattle.invoke_queue.specs.Plans.{IsRisingPlan}
 use Rattle.unum_world.specs.declared.opening.Session.{Session}
@@ -43,8 +44,10 @@ AreAllValid = AllByRecursion (λ (m : List ℕ × Machine). IsValid (tree_of m.1
 abbrev pub HasMachine : Opening → Session → Type 0
 HasMachine o s = s.machine < length o.machines
 
--- There are at most 1,000 sessions, each session's machine is there, and the plan's lists rise.
+-- There are at most 1,000 sessions, each session's machine is there, each Task of it has a function in the table, and the plan's
+-- lists rise.
 pub record Fits (o : Opening) : Type 0 where
   pub sessions : length o.sessions ≤ SESSIONS
   pub machines : AllByRecursion (HasMachine o) o.sessions
+  pub functions : HasFunctions (opening_as o)
   pub plan : IsRisingPlan o.plan

@@ -1,29 +1,33 @@
 //! Worlds: sessions of whole machines that run over a store, a queue and bitmaps, with every mishap.
 #![tactic(auto)]
 
-mod answering;
-mod awaiting;
-mod choosing;
+mod answers;
+mod calls;
+mod chooser;
+mod crash_all;
+mod engine;
+mod events;
+mod first_state;
 mod flat;
-mod happening;
 mod mishaps;
-mod moment;
 mod opening;
-mod opens;
-mod placing;
-mod preparing;
+mod places;
+mod planned;
+mod prepared;
 mod refusal;
 mod session;
-mod settle;
 mod settled;
-mod standings;
-mod stepping;
+mod status;
+mod steps;
+mod turns;
 mod twins;
 mod world;
+mod world_state;
 
+pub use engine::{Start, logs_have_one_trace};
 pub use opening::{Opening, Session};
-pub use refusal::ApplyError;
+pub use planned::Planned;
+pub use refusal::{ApplyError, Full};
 pub use session::SessionState;
-pub use settle::Planned;
 pub use settled::Settled;
 pub use world::World;

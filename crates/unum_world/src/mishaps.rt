@@ -5,13 +5,13 @@ ghost use Rattle.world_types.specs.declared.queue.Event.TheVariants.{Deliver, Cr
 ghost use Rattle.world_model.specs.AnyCode.Code.{flags};
 ghost use Rattle.world_model.specs.AnyCode.World.{enabled, effect};
 ghost use Rattle.unum_world.specs.Openings.{codes_of};
-ghost use Rattle.unum_world.specs.Pasts.{world_of};
-ghost use Rattle.unum_world.specs.Keeping.{Keeps, Holds};
+ghost use Rattle.unum_world.specs.Traces.{world_of};
+ghost use Rattle.unum_world.specs.Kept.{Keeps, Holds};
 
-use crate::moment::Moment;
 use crate::opening::Opening;
-use crate::placing::message_of;
+use crate::places::message_of;
 use crate::twins::put_twin;
+use crate::world_state::WorldState;
 use invoke_queue::QueueError;
 use unum_json::NoMemory;
 
@@ -34,7 +34,7 @@ pub fn put<T: Drop>(items: &mut Vec<T>, at: u32, item: T)
 }
 
 /// An invocation is delivered: a new attempt of it begins.
-pub fn deliver(o: &Opening, now: &mut Moment, inv: u32) -> Result<(), NoMemory>
+pub fn deliver(o: &Opening, now: &mut WorldState, inv: u32) -> Result<(), NoMemory>
     requires holds { Holds o.now now.old }
     requires on { IsTrue (enabled (codes_of o.now) (world_of o.now now.old) (Deliver inv)) }
     ensures ok { OnOk result (world_of o.now now.new ≡ effect flags (codes_of o.now) (world_of o.now now.old) (Deliver inv)) }
@@ -54,7 +54,7 @@ pub fn deliver(o: &Opening, now: &mut Moment, inv: u32) -> Result<(), NoMemory>
 }
 
 /// An attempt ends, and its local state is lost.
-pub fn crash(o: &Opening, now: &mut Moment, attempt: u32)
+pub fn crash(o: &Opening, now: &mut WorldState, attempt: u32)
     requires holds { Holds o.now now.old }
     requires on { IsTrue (enabled (codes_of o.now) (world_of o.now now.old) (Crash attempt)) }
     ensures world { world_of o.now now.new ≡ effect flags (codes_of o.now) (world_of o.now now.old) (Crash attempt) }
@@ -69,7 +69,7 @@ pub fn crash(o: &Opening, now: &mut Moment, attempt: u32)
 }
 
 /// An invocation is given up.
-pub fn give_up(o: &Opening, now: &mut Moment, inv: u32)
+pub fn give_up(o: &Opening, now: &mut WorldState, inv: u32)
     requires holds { Holds o.now now.old }
     requires on { IsTrue (enabled (codes_of o.now) (world_of o.now now.old) (GiveUp inv)) }
     ensures world { world_of o.now now.new ≡ effect flags (codes_of o.now) (world_of o.now now.old) (GiveUp inv) }

@@ -17,3 +17,10 @@ pub enum ApplyError {
     /// Memory was wanted and not found.
     NoMemory,
 }
+
+/// The history is full, and some attempt lives.
+#[derive(Clone, Copy, Debug, PartialEq, Eq)]
+pub struct Full {
+    /// How many events the history has.
+    pub len: u64,
+}

@@ -1,7 +1,7 @@
 //! The invocations that are to have a twin.
 ghost use Rattle.std.specs.Prelude.{◌≡◌, ◌<◌, ◌≤◌, OnOk};
 ghost use Rattle.invoke_queue.specs.Plans.{IsRisingPlan};
-ghost use Rattle.unum_world.specs.Keeping.{twins_with};
+ghost use Rattle.unum_world.specs.Kept.{twins_with};
 
 use invoke_queue::{Numbers, Queue, wants_twin};
 use unum_json::NoMemory;

@@ -23,10 +23,11 @@ abbrev pub StepOf : (List ℕ → Option ℕ → Pick → List ℕ → Type 0) �
 StepOf picked handed mine seen answer after =
     (pick : Pick) × (between : List ℕ) × Turn (λ before. picked before mine) seen pick between × Goes handed pick between answer after
 
--- the attempt that a worker has after a step that lets it go on
+-- the attempt that a worker has after a step that lets it go on: none where there was nothing to do, and it tries again later
 abbrev pub Leaves : Pick → Option ℕ → Type 0
 Leaves (Mine attempt) mine = mine ≡ Some attempt
 Leaves Free mine = mine ≡ None
+Leaves Idle mine = mine ≡ None
 Leaves _ mine = ⊥
 
 -- how far a worker can come from a log that its seat had seen: its attempt, and the log that its seat has seen then

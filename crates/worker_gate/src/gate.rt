@@ -1,3 +1,4 @@
+//! What is told of the calls of functions.
 /// Is told of each call of a function.
 pub trait Gate {
     /// A function is about to be called for the attempt with this number.

@@ -5,6 +5,7 @@
 #![tactic(auto)]
 
 mod all;
+mod crew;
 mod engine;
 mod gate;
 mod jobs;

@@ -1,3 +1,4 @@
+//! What a worker is told.
 use fn_table::FnKind;
 use unum_json::Json;
 
@@ -14,7 +15,7 @@ pub enum Pick {
         input: Json,
         ticket: u32,
     },
-    /// There is nothing to do.
+    /// There is nothing to do now, and the worker has no attempt.
     Idle,
     /// The log has no room.
     Spent,

@@ -5,6 +5,7 @@ ghost use Rattle.seat_lock.specs.Locks.{IsOf};
 ghost use Rattle.worker_gate.specs.Picks.{OnIdle, OnSpent, IsDone};
 ghost use Rattle.worker_gate.specs.Turns.{StepOf, RunOf};
 
+use crate::crew::{Crew, Shift};
 use crate::engine::Engine;
 use crate::gate::Gate;
 use crate::jobs::{Asks, Hands};
@@ -34,6 +35,15 @@ pub struct Worked<E: Engine> {
     pub ended: WorkEnd,
 }
 
+/// What the workers of a crew work with.
+#[derive(Drop)]
+struct Bench<'a, E: Engine, F, G> {
+    crew: &'a Crew,
+    lock: &'a SeatLock<E>,
+    f: &'a F,
+    g: &'a G,
+}
+
 /// Calls a function, of which the gate is told.
 fn call<F: Functions, G: Gate>(
     f: &F,
@@ -50,52 +60,51 @@ fn call<F: Functions, G: Gate>(
     answered
 }
 
-/// One turn, and where it asks for a function, the call and the turn in which the answer is handed in.
-fn step<E: Engine, F: Functions, G: Gate, R: Wait>(
+/// One turn, and where it asks for a function, the call and the turn in which the answer is handed in. Others may be at
+/// the engine while the function is called.
+fn step<'a, E: Engine, F: Functions, G: Gate, R: Wait>(
     rt: &R,
-    lock: &SeatLock<E>,
+    bench: &Bench<'a, E, F, G>,
     seat: &mut Seat<E>,
     mine: Option<u32>,
-    f: &F,
-    g: &G,
-) -> Pick
-    requires { IsOf lock.now seat.old }
-    ensures own { IsOf lock.now seat.new × (seat.new.share ≡ seat.old.share) }
+    shift: Shift<'a>,
+) -> (Pick, Shift<'a>)
+    requires { IsOf bench.now.lock.now seat.old }
+    ensures own { IsOf bench.now.lock.now seat.new × (seat.new.share ≡ seat.old.share) }
     ensures seen { IsPrefix seat.old.seen seat.new.seen }
-    ensures done { IsDone result }
-    ensures idle { OnIdle result (E.idle lock.now.opening seat.new.seen) }
-    ensures spent { OnSpent result (E.full lock.now.opening seat.new.seen) }
-    ensures turns { StepOf (E.picked lock.now.opening) (E.handed lock.now.opening) mine seat.old.seen result seat.new.seen }
+    ensures done { IsDone result.0 }
+    ensures idle { OnIdle result.0 (E.idle bench.now.lock.now.opening seat.new.seen) }
+    ensures spent { OnSpent result.0 (E.full bench.now.lock.now.opening seat.new.seen) }
+    ensures turns { StepOf (E.picked bench.now.lock.now.opening) (E.handed bench.now.lock.now.opening) mine seat.old.seen result.0 seat.new.seen }
 {
-    match lock.turn(rt, seat, Asks { mine }) {
+    match bench.lock.turn(rt, seat, Asks { mine }) {
         Pick::Call {
             kind,
             input,
             ticket,
         } => {
-            let answered = call(f, g, &kind, &input, ticket);
+            let away = bench.crew.leave(shift);
+            let answered = call(bench.f, bench.g, &kind, &input, ticket);
             drop(input);
             drop(kind);
+            let shift = bench.crew.come_back(rt, away);
             match answered {
                 Ok(done) => {
-                    let pick = lock.turn(rt, seat, Hands { done: &done });
+                    let pick = bench.lock.turn(rt, seat, Hands { done: &done });
                     drop(done);
-                    pick
+                    (pick, shift)
                 }
-                Err(NoMemory) => Pick::NoMemory,
+                Err(NoMemory) => (Pick::NoMemory, shift),
             }
         }
-        pick => pick,
+        pick => (pick, shift),
     }
 }
 
-/// Takes turns with the seat until there is nothing to do, the log has no room, or memory ran out. Between two turns it
-/// calls the functions that it is asked to call; the gate is told of each call.
-///
-/// It may wait, and promises no return. `Idle` and `Spent` are facts of the log that the returned seat has seen.
-/// `NoMemory` is the answer where a turn or a function found no memory.
-pub fn work<E: Engine, F: Functions, G: Gate, R: Wait>(
+/// The work of one of a crew: see [`work`].
+pub(crate) fn work_in<E: Engine, F: Functions, G: Gate, R: Wait>(
     rt: &R,
+    crew: &Crew,
     lock: &SeatLock<E>,
     mut seat: Seat<E>,
     f: &F,
@@ -108,23 +117,59 @@ pub fn work<E: Engine, F: Functions, G: Gate, R: Wait>(
     ensures spent { result.ended ≡ WorkEnd.Spent → E.full lock.now.opening result.seat.seen }
     ensures turns { RunOf (E.picked lock.now.opening) (E.handed lock.now.opening) seat.seen result.ended result.seat.seen }
 {
+    let bench = Bench { crew, lock, f, g };
     let mut mine = None;
+    let mut shift = crew.begin(rt);
     for _ in rt.forever() {
-        let ended = match step(rt, lock, &mut seat, mine, f, g) {
+        let (pick, after) = step(rt, &bench, &mut seat, mine, shift);
+        let ended = match pick {
             Pick::Mine(attempt) => {
                 mine = Some(attempt);
+                shift = crew.go_on(rt, after);
                 continue;
             }
             Pick::Free => {
                 mine = None;
+                shift = crew.go_on_free(rt, after);
                 continue;
             }
-            Pick::Idle => WorkEnd::Idle,
+            Pick::Idle => {
+                let Some(next) = crew.rest(rt, after) else {
+                    let ended = WorkEnd::Idle;
+                    return Worked { seat, ended };
+                };
+                mine = None;
+                shift = next;
+                continue;
+            }
             Pick::Spent => WorkEnd::Spent,
             Pick::NoMemory => WorkEnd::NoMemory,
             Pick::Call { .. } => unreachable!(),
         };
+        crew.end(after);
         return Worked { seat, ended };
     }
     unreachable!()
+}
+
+/// Takes turns with the seat until there is nothing to do, the log has no room, or memory ran out. Between two turns it
+/// calls the functions that it is asked to call; the gate is told of each call.
+///
+/// It may wait, and promises no return. `Idle` and `Spent` are facts of the log that the returned seat has seen.
+/// `NoMemory` is the answer where a turn or a function found no memory.
+pub fn work<E: Engine, F: Functions, G: Gate, R: Wait>(
+    rt: &R,
+    lock: &SeatLock<E>,
+    seat: Seat<E>,
+    f: &F,
+    g: &G,
+) -> Worked<E>
+    requires { IsOf lock.now seat }
+    ensures own { IsOf lock.now result.seat × (result.seat.share ≡ seat.share) }
+    ensures seen { IsPrefix seat.seen result.seat.seen }
+    ensures idle { result.ended ≡ WorkEnd.Idle → E.idle lock.now.opening result.seat.seen }
+    ensures spent { result.ended ≡ WorkEnd.Spent → E.full lock.now.opening result.seat.seen }
+    ensures turns { RunOf (E.picked lock.now.opening) (E.handed lock.now.opening) seat.seen result.ended result.seat.seen }
+{
+    work_in(rt, &Crew::new(), lock, seat, f, g)
 }

@@ -22,7 +22,7 @@ use Rattle.world_model.proofs.Drains.{over_cases}
 use Rattle.world_model.proofs.Queues.{live_none, not_live}
 use Rattle.world_model.proofs.Numbers.{Comes, machine_run}
 use Rattle.world_plans.specs.declared.totals.Counts.{Counts}
-use Rattle.world_plans.specs.Standings.{Standing, Ended, Abandoned, StillOpen, outcome_in, is_over, all_over, unless_ended, standing, counts_with, count_from, no_counts, totals_by, totals_of, EveryNumberedSessionStandsAlike, EveryAbandonedSessionGaveUp}
+use Rattle.world_plans.specs.Sessions.{SessionStatus, Ended, Abandoned, StillOpen, outcome_in, is_over, all_over, unless_ended, standing, counts_with, count_from, no_counts, totals_by, totals_of, EveryNumberedSessionStandsAlike, EveryAbandonedSessionGaveUp}
 
 or_true : (a b c : Bool) → b ≡ true → c ≡ true → (a || b) && c ≡ true
 or_true true b c p q = q
@@ -38,7 +38,7 @@ is_settled : (x : Option Outcome) → unless_ended true x ≢ StillOpen
 is_settled None e = absurd (cc)
 is_settled (Some o) e = absurd (cc)
 
-one_counted : (s : Standing) (c : Counts) → (counts_with s c).ended + ((counts_with s c).abandoned + (counts_with s c).still_open) ≡ suc (c.ended + (c.abandoned + c.still_open))
+one_counted : (s : SessionStatus) (c : Counts) → (counts_with s c).ended + ((counts_with s c).abandoned + (counts_with s c).still_open) ≡ suc (c.ended + (c.abandoned + c.still_open))
 one_counted (Ended o) c = omega arith
 one_counted Abandoned c = omega arith
 one_counted StillOpen c = omega arith

@@ -11,7 +11,7 @@ ghost use Rattle.asl_model.specs.Machine.{Block};
 ghost use Rattle.world_model.specs.Sites.{Site};
 ghost use Rattle.world_plans.specs.Running.{EveryAllowedEventMayHappen, EveryPlanGoesOn, EveryPlanIsInThree, EveryChoiceIsAllowed, EveryChoiceIsOne, EveryMachineWorldRuns, EveryNumberedWorldRuns, EveryFlatWorldRuns, EveryNumberedPlanAllowsAlike, EveryNumberedChoiceIsAlike};
 ghost use Rattle.world_plans.specs.Changes.{EveryEventChangesLists};
-ghost use Rattle.world_plans.specs.Standings.{EveryDrainedSessionIsSettled, EverySessionIsCounted, EveryNumberedSessionStandsAlike, EveryAbandonedSessionGaveUp};
+ghost use Rattle.world_plans.specs.Sessions.{EveryDrainedSessionIsSettled, EverySessionIsCounted, EveryNumberedSessionStandsAlike, EveryAbandonedSessionGaveUp};
 
 pub use planning::{Mishap, Plan};
 pub use totals::{Counts, Totals};

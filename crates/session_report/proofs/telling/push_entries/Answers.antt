@@ -1,5 +1,5 @@
 use Rattle.std.proofs.Common.{◌∙◌, ◌++◌, ap, arith, string_bytes}
-use Rattle.unum_world.specs.Pasts.{now}
+use Rattle.unum_world.specs.Traces.{now}
 use Rattle.session_report.specs.Report.{lines, entry_line}
 use Rattle.session_report.proofs.Lines.{line_next, lines_done}
 use Rattle.session_report.proofs.telling.push_entries.Goals as goal

@@ -1,6 +1,6 @@
 use Rattle.std.proofs.Common.{◌∙◌, ◌++◌, ap, arith, length, string_bytes}
 use Rattle.unum_world.specs.declared.opening.Opening.{Opening}
-use Rattle.unum_world.specs.Pasts.{now}
+use Rattle.unum_world.specs.Traces.{now}
 use Rattle.session_report.specs.Report.{lines, session_line}
 use Rattle.session_report.proofs.Lines.{line_next, lines_done}
 use Rattle.session_report.proofs.telling.push_sessions.Goals as goal

@@ -1,5 +1,5 @@
 use Rattle.std.proofs.Common.{◌≡◌, ◌++◌, ◌-◌, string_bytes}
-use Rattle.unum_world.specs.Pasts.{now}
+use Rattle.unum_world.specs.Traces.{now}
 use Rattle.session_report.specs.Report.{lines, session_line}
 use Rattle.session_report.proofs.telling.push_sessions.Given as goal
 

@@ -1,6 +1,0 @@
-use Rattle.std.proofs.Common.{rules}
-use Rattle.unum_world.proofs.Opened.{opened_keeps}
-use Rattle.unum_world.proofs.opens.first_moment.Goals as goal
-
-pub returns-clause-kept : goal.returns-clause-kept
-returns-clause-kept c = opened_keeps c.args.o.now _ (search rules) c.new-2.ensures.items (search rules)

@@ -1,6 +1,0 @@
-use Rattle.std.proofs.Common.{◌≡◌, drop}
-use Rattle.world_plans.specs.Standings.{all_over}
-use Rattle.unum_world.proofs.standings.all_over.Given as goal
-
-abbrev pub invariant-loop-k : goal.invariant-loop-k
-invariant-loop-k l = all_over l.session l.queue.invs l.queue.states ≡ all_over l.session (drop l.k l.queue.invs) (drop l.k l.queue.states)

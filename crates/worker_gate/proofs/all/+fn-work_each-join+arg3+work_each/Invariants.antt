@@ -1,0 +1,8 @@
+use Rattle.std.proofs.Common.{◌+◌, ◌*◌}
+use Rattle.worker_gate.proofs.all.+fn-work_each-join+arg3+work_each.Given as goal
+
+abbrev pub decreases-join+arg3 : goal.decreases-join+arg3
+decreases-join+arg3 g l = 2 * l.seat.share + 1
+
+abbrev pub decreases-work_each : goal.decreases-work_each
+decreases-work_each g l = 2 * l.seat.share
