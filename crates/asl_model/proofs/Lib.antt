@@ -1,3 +1,4 @@
+-- Lemmas on machines, their central runs, validity, and the numbers of functions.
 pub mod Lists
 pub mod Trees
 pub mod Tree

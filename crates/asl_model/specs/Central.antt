@@ -1,5 +1,5 @@
 -- The central run: what a machine does for one session, by one recursion on the nested blocks.
--- Amazon States Language, "Transitions", "Parallel State" and "Map State".
+-- Source: Amazon States Language, "Transitions", "Parallel State" and "Map State".
 use Rattle.std.specs.Prelude.{ℕ, zero, suc, List, [], ◌∷◌, ◌++◌, Option, Some, None, if◌then◌else◌, length}
 use Rattle.asl_model.specs.Data.{Text, Json, Null, Outcome, Done, combine, hop_limit_error, no_state_error, failure, same_text, repeat}
 use Rattle.asl_model.specs.Names.{Scope, Place, Kind, Enter, Task as TaskKind, Join, Name, at_hop, child, Answers}
@@ -89,7 +89,8 @@ then_go vs (Then_on (Ends o)) go = record { visits = vs; end = Ended o }
 then_go vs (Stays ps) go = record { visits = vs; end = Waits ps }
 
 -- a Task's visit: without an answer the scope waits there
-abbrev pub called : Ways → Block → Text → State → Place → (raw : Json) → Used → (resource : Text) → (effective : Json) → Option Outcome → Turn
+abbrev pub called : Ways → Block → Text → State → Place → (raw : Json) → Used → (resource : Text) → (effective : Json) →
+    Option Outcome → Turn
 called W b name s p raw used resource x None = record {
   visits = record { place = p; block = b; visited = Called name resource; raw = raw; used = used; given = x; answer = None } ∷ [];
   onward = Stays (p ∷ []);
@@ -103,7 +104,8 @@ called W b name s p raw used resource x (Some o) = record {
 abbrev pub joined : Ways → Block → Text → State → Place → (raw : Json) → Used → List Visit → Gathered → Turn
 joined W b name s p raw used vs (Some_wait ps) = record { visits = vs; onward = Stays ps }
 joined W b name s p raw used vs (All_ended os) = record {
-  visits = record { place = p; block = b; visited = Joined name; raw = raw; used = used; given = raw; answer = Some (combine name os) } ∷ vs;
+  visits =
+      record { place = p; block = b; visited = Joined name; raw = raw; used = used; given = raw; answer = Some (combine name os) } ∷ vs;
   onward = Then_on (W.finish name s raw used (combine name os));
 }
 
@@ -126,7 +128,8 @@ module _ (W : Ways) (A : Answers) where
       let runs = each p (length inputs) 0 (branches (length inputs)) inputs in
       joined W b name s p raw used (visits_of runs) (gather runs)
 
-  abbrev pub enter : Block → Text → Option State → (ℕ → List Runner) → Scope → ℕ → Json → Option Used → (Text → Json → Option Used → Run) → Run
+  abbrev pub enter : Block → Text → Option State → (ℕ → List Runner) → Scope → ℕ → Json → Option Used →
+      (Text → Json → Option Used → Run) → Run
   enter b name None branches s hop raw again go = ends_with (failure no_state_error name)
   enter b name (Some st) branches s hop raw again go =
       let t = turn b name st branches (at_hop s hop) raw (used_by W st again) (W.begin name st raw) in

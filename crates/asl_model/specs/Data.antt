@@ -1,5 +1,5 @@
 -- What happens to a state's data.
--- Amazon States Language, "Input and Output Processing", "Parallel State", "Map State" and "Errors".
+-- Source: Amazon States Language, "Input and Output Processing", "Parallel State", "Map State" and "Errors".
 use Rattle.std.specs.Prelude.{ℕ, zero, suc, length, nat_le, List, [], ◌∷◌, Option, Some, None, Result, Ok, Err, Bool, false, ◌&&◌, ◌||◌, if◌then◌else◌, codes}
 use Rattle.std.specs.Str.{bytes_eq}
 pub use Rattle.unum_json.specs.declared.value.Json.{Json}

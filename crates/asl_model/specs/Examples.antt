@@ -40,7 +40,11 @@ fan = block (codes "A")
 
 -- a Parallel whose one branch is a Pass that enters itself again
 abbrev pub loop : Block
-loop = block (codes "A") (and_state (codes "A") (Parallel whole (and_block (block (codes "L") (and_state (codes "L") (Pass whole None (goes_to (codes "L"))) no_state)) no_block) at_end bare) no_state)
+loop = block (codes "A") (and_state (codes "A")
+    (Parallel whole
+    (and_block (block (codes "L") (and_state (codes "L") (Pass whole None (goes_to (codes "L"))) no_state)) no_block)
+    at_end bare)
+    no_state)
 
 abbrev pub twice : Care
 twice = record { retry = record { errors = codes "States.TaskFailed" ∷ []; most = 2 } ∷ []; catch = [] }
@@ -52,7 +56,10 @@ cared = block (codes "A") (and_state (codes "A") (Task whole (codes "f") at_end 
 -- a Parallel with neither Next nor End, whose branch goes to a state beside the Parallel
 abbrev pub astray : Block
 astray = block (codes "P")
-    (and_state (codes "P") (Parallel whole (and_block (block (codes "X") (and_state (codes "X") (Pass whole None (goes_to (codes "Q"))) no_state)) no_block) (record { next = None; end = false }) bare)
+    (and_state (codes "P")
+    (Parallel whole
+    (and_block (block (codes "X") (and_state (codes "X") (Pass whole None (goes_to (codes "Q"))) no_state)) no_block)
+    (record { next = None; end = false }) bare)
     (and_state (codes "Q") (Succeed whole) no_state))
 
 abbrev pub here : ℕ → Place
@@ -93,7 +100,8 @@ begin_plainly name (Map shape items selector b after care limit) raw = Fans (rep
 
 abbrev pub finish_plainly : Text → State → Json → Used → Outcome → Onward
 finish_plainly name (Task shape resource after care) raw used (Done v) = leaves after.next v
-finish_plainly name (Task shape resource after care) raw used (Failed f) = again_or name raw (retried f.error true care.retry used) (Ends (Failed f))
+finish_plainly name (Task shape resource after care) raw used (Failed f) =
+    again_or name raw (retried f.error true care.retry used) (Ends (Failed f))
 finish_plainly name _ raw used o = Ends o
 
 abbrev pub plainly : Ways
@@ -122,7 +130,8 @@ FanWaits = shown (central plainly (answers_of ((below 0 0 2 0, Done null) ∷ []
 
 -- an empty Map joins at once
 abbrev pub EmptyMap : Type 0
-EmptyMap = shown (central plainly nothing (each_task 0) 0 null).visits ≡ (0 ∷ [], Some (Done null)) ∷ (0 ∷ [], Some (combine (codes "C") [])) ∷ []
+EmptyMap = shown (central plainly nothing (each_task 0) 0 null).visits
+    ≡ (0 ∷ [], Some (Done null)) ∷ (0 ∷ [], Some (combine (codes "C") [])) ∷ []
 
 -- two failures are retried, and the third ends the scope: the Tasks stand at hops 0, 1 and 2, each with its list
 abbrev pub RetriedTask : Type 0
@@ -149,20 +158,23 @@ AstrayBreaks = broken astray ≡ record { rule = V2; state = codes "X" } ∷ rec
 
 -- the first retrier that matches is taken while it may be, before any catcher
 abbrev pub RetriesFirst : Type 0
-RetriesFirst = (name label : Text) (shape : Shape) (after : Option Text) (care : CareOf Text) (answered : Bool) (raw : Json) (r : Retrier) (rs : List Retrier) (u : ℕ) (us : Used) (f : Fault) →
+RetriesFirst = (name label : Text) (shape : Shape) (after : Option Text) (care : CareOf Text) (answered : Bool) (raw : Json)
+    (r : Retrier) (rs : List Retrier) (u : ℕ) (us : Used) (f : Fault) →
     care.retry ≡ r ∷ rs → match_error r.errors f.error answered ≡ true → nat_lt u r.most ≡ true →
     settled name label shape after care answered raw (u ∷ us) (Failed f) ≡ Goes label raw (Some (suc u ∷ us))
 
 -- where it was taken often enough the failure goes to the catchers, whatever retriers follow
 abbrev pub SpentIsCaught : Type 0
-SpentIsCaught = (name label : Text) (shape : Shape) (after : Option Text) (care : CareOf Text) (answered : Bool) (raw : Json) (r : Retrier) (rs : List Retrier) (u : ℕ) (us : Used) (f : Fault) →
+SpentIsCaught = (name label : Text) (shape : Shape) (after : Option Text) (care : CareOf Text) (answered : Bool) (raw : Json)
+    (r : Retrier) (rs : List Retrier) (u : ℕ) (us : Used) (f : Fault) →
     care.retry ≡ r ∷ rs → match_error r.errors f.error answered ≡ true → nat_lt u r.most ≡ false →
     settled name label shape after care answered raw (u ∷ us) (Failed f) ≡ caught name raw f.error f.cause answered care.catch
 
 -- the first catcher that matches puts the error into the raw data and goes to its next state as a new entry
 abbrev pub FirstCatches : Type 0
 FirstCatches = (name : Text) (raw v : Json) (error cause : Text) (answered : Bool) (c : CatcherOf Text) (cs : List (CatcherOf Text)) →
-    match_error c.errors error answered ≡ true → put_error c.result raw error cause ≡ Ok v → caught name raw error cause answered (c ∷ cs) ≡ Goes c.next v None
+    match_error c.errors error answered ≡ true → put_error c.result raw error cause ≡ Ok v →
+    caught name raw error cause answered (c ∷ cs) ≡ Goes c.next v None
 
 -- an error of a Task's data flow goes to its catchers at once, and States.TaskFailed does not match it
 abbrev pub OwnErrorIsCaught : Type 0
@@ -179,4 +191,5 @@ TaskFailedMatches =
 
 -- the failure of lowest index is what a fan comes to
 abbrev pub LowestFails : Type 0
-LowestFails = (name : Text) (v w : Json) (f g : Fault) (os : List Outcome) → combine name (Done v ∷ Failed f ∷ Done w ∷ Failed g ∷ os) ≡ Failed f
+LowestFails = (name : Text) (v w : Json) (f g : Fault) (os : List Outcome) →
+    combine name (Done v ∷ Failed f ∷ Done w ∷ Failed g ∷ os) ≡ Failed f

@@ -1,5 +1,5 @@
 -- What data the states of small machines see and hand on, and which function is called first.
--- Amazon States Language, "Input and Output Processing", "Choice State", "Pass State" and "Errors".
+-- Source: Amazon States Language, "Input and Output Processing", "Choice State", "Pass State" and "Errors".
 use Rattle.std.specs.Prelude.{◌≡◌, [], ◌∷◌, true, false, Some, None, pos, codes}
 use Rattle.unum_json.specs.declared.value.Json as json
 use Rattle.asl_paths.specs.declared.path.PathStep.TheVariants.{Field}
@@ -38,7 +38,8 @@ has_a = rule.Test (key (codes "a")) (op.IsPresent true)
 -- A Choice asks its rules of what InputPath $.o finds, and its OutputPath $.a leads into that too.
 abbrev pub ChoiceSeesInside : Type 0
 ChoiceSeesInside =
-    does (codes "C") (HChoice (record whole { input = Some (key (codes "o")); output = Some (key (codes "a")) }) (has_a ∷ []) (codes "N" ∷ []) None) outside
+    does (codes "C") (HChoice (record whole { input = Some (key (codes "o")); output = Some (key (codes "a")) }) (has_a ∷ [])
+    (codes "N" ∷ []) None) outside
     ≡ On (Goes (codes "N") one None)
 
 -- of the raw data it finds nothing there
@@ -50,8 +51,10 @@ ChoiceFindsNothing =
 -- A Pass hands on what InputPath $.o finds, or its Result.
 abbrev pub PassHandsOn : Type 0
 PassHandsOn =
-    (does (codes "P") (HPass (record whole { input = Some (key (codes "o")) }) None (Some (codes "N"))) outside ≡ On (Goes (codes "N") inside None))
-    × (does (codes "P") (HPass (record whole { input = Some (key (codes "o")) }) (Some one) (Some (codes "N"))) outside ≡ On (Goes (codes "N") one None))
+    (does (codes "P") (HPass (record whole { input = Some (key (codes "o")) }) None (Some (codes "N"))) outside
+    ≡ On (Goes (codes "N") inside None))
+    × (does (codes "P") (HPass (record whole { input = Some (key (codes "o")) }) (Some one) (Some (codes "N"))) outside
+    ≡ On (Goes (codes "N") one None))
 
 -- an error of a state's data flow has the state's name as its cause
 abbrev pub StateIsCause : Type 0
@@ -65,7 +68,9 @@ catches_e = record { errors = codes "E" ∷ []; result = Some (key (codes "e"));
 
 -- {"a":1,"e":{"Cause":"c","Error":"E"}}
 abbrev pub with_error : Json
-with_error = json.Obj ((codes "a", one) ∷ (codes "e", json.Obj ((codes "Cause", json.Str (codes "c")) ∷ (codes "Error", json.Str (codes "E")) ∷ [])) ∷ [])
+with_error = json.Obj
+    ((codes "a", one)
+    ∷ (codes "e", json.Obj ((codes "Cause", json.Str (codes "c")) ∷ (codes "Error", json.Str (codes "E")) ∷ [])) ∷ [])
 
 -- a catcher puts error and cause into the raw data, each at its key
 abbrev pub CatcherPuts : Type 0
@@ -73,7 +78,8 @@ CatcherPuts = caught (codes "A") inside (codes "E") (codes "c") false (catches_e
 
 -- a Parallel of two branches, each of one Task
 abbrev pub both : Block
-both = block (codes "P") (and_state (codes "P") (Parallel whole (and_block (one_task (codes "A")) (and_block (one_task (codes "A")) no_block)) at_end bare) no_state)
+both = block (codes "P") (and_state (codes "P")
+    (Parallel whole (and_block (one_task (codes "A")) (and_block (one_task (codes "A")) no_block)) at_end bare) no_state)
 
 -- a function that answers its ticket
 abbrev pub ticket : Functions

@@ -1,6 +1,6 @@
 -- What one state does: up to its visit, and after its answer. It is said once for any kind of labels for states and of
 -- resources: names on a machine, numbers on a flat form.
--- Amazon States Language, "State Types" and "Errors" (with "Retrying After Error" and "Fallback States").
+-- Source: Amazon States Language, "State Types" and "Errors" (with "Retrying After Error" and "Fallback States").
 use Rattle.std.specs.Prelude.{ℕ, suc, List, [], ◌∷◌, Option, Some, None, Result, Ok, Err, Bool, true, false, nat_lt, if◌then◌else◌, option_map, slice_get}
 pub use Rattle.asl_model.specs.declared.machine.Retrier.{Retrier}
 use Rattle.asl_model.specs.Data.{Text, Json, Outcome, Done, Failed, failure, Shape, Rule, Path, Template, prepared, handed_on, output, chosen, no_choice, parallel_inputs, map_inputs, match_error, put_error}
@@ -105,7 +105,10 @@ begins name (HTask shape r after care) raw = or_caught name raw care (prepared s
 begins name (HPass shape result after) raw =
     On (or_fails name (prepared shape raw) (λ x. or_fails name (handed_on shape raw (result_or result x)) (λ v. leaves after v)))
 begins name (HChoice shape rules nexts default) raw =
-    On (or_fails name (prepared shape raw) (λ x. or_fails name (chosen rules x) (λ i. or_none name (picked nexts default i) (λ next. or_fails name (output shape x) (λ v. Goes next v None)))))
+    On (or_fails name (prepared shape raw) (λ x.
+    or_fails name (chosen rules x) (λ i.
+    or_none name (picked nexts default i) (λ next.
+    or_fails name (output shape x) (λ v. Goes next v None)))))
 begins name (HSucceed shape) raw = On (or_fails name (prepared shape raw) (λ x. or_fails name (output shape x) (λ v. Ends (Done v))))
 begins name (HFail error cause) raw = On (Ends (failure error cause))
 begins name (HParallel shape n after care) raw =

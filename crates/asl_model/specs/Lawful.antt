@@ -11,7 +11,8 @@ use Rattle.asl_model.specs.Laws.{In, IsSound, Growth, Next, OneVisit, EndKept, F
 
 -- a scope's run has its Enter
 abbrev pub Enters : Ways → Type 0
-Enters W = (A : Answers) (b : Block) (s : Scope) (x : Json) → (v : Visit) × In v (scope W A b s x).visits × (v.place ≡ at_hop s 0) × (v.block ≡ b) × (v.visited ≡ Entered) × (v.given ≡ x)
+Enters W = (A : Answers) (b : Block) (s : Scope) (x : Json) →
+    (v : Visit) × In v (scope W A b s x).visits × (v.place ≡ at_hop s 0) × (v.block ≡ b) × (v.visited ≡ Entered) × (v.given ≡ x)
 
 -- each visit is as its kind says
 abbrev pub Sound : Ways → Type 0
@@ -26,13 +27,17 @@ pub record SameFan (fb gb : Block) (name other : Text) (raw more : Json) (used a
   pub branches : cs ≡ ds
 
 abbrev pub OneFan : Ways → Type 0
-OneFan W = (A : Answers) (b : Block) (s : Scope) (x : Json) (p : Place) (fb gb : Block) (name other : Text) (raw more : Json) (used again : Used) (cs ds : List (Block × Json)) →
-    LeadsTo W A (scope W A b s x).visits p fb name raw used cs → LeadsTo W A (scope W A b s x).visits p gb other more again ds → SameFan fb gb name other raw more used again cs ds
+OneFan W = (A : Answers) (b : Block) (s : Scope) (x : Json) (p : Place) (fb gb : Block) (name other : Text) (raw more : Json)
+    (used again : Used) (cs ds : List (Block × Json)) →
+    LeadsTo W A (scope W A b s x).visits p fb name raw used cs → LeadsTo W A (scope W A b s x).visits p gb other more again ds →
+    SameFan fb gb name other raw more used again cs ds
 
 -- the branches of a fan are those of its state, with the inputs that its raw data give
 abbrev pub FanIs : Ways → Type 0
-FanIs W = (A : Answers) (b : Block) (s : Scope) (x : Json) (p : Place) (fb : Block) (name : Text) (raw : Json) (used : Used) (cs : List (Block × Json)) →
-    LeadsTo W A (scope W A b s x).visits p fb name raw used cs → (st : State) × (inputs : List Json) × (state_of fb name ≡ Some st) × (W.begin name st raw ≡ Fans inputs) × (cs ≡ children st inputs)
+FanIs W = (A : Answers) (b : Block) (s : Scope) (x : Json) (p : Place) (fb : Block) (name : Text) (raw : Json) (used : Used)
+    (cs : List (Block × Json)) →
+    LeadsTo W A (scope W A b s x).visits p fb name raw used cs →
+    (st : State) × (inputs : List Json) × (state_of fb name ≡ Some st) × (W.begin name st raw ≡ Fans inputs) × (cs ≡ children st inputs)
 
 -- a visit's scope is a branch of a fan that an answer leads to
 pub record IsBranchOf (W : Ways) (A : Answers) (vs : List Visit) (v : Visit) : Type 0 where
@@ -51,7 +56,8 @@ pub record IsBranchOf (W : Ways) (A : Answers) (vs : List Visit) (v : Visit) : T
 
 -- each visit stands in the scope itself, or in such a branch
 abbrev pub Sites : Ways → Type 0
-Sites W = (A : Answers) (b : Block) (s : Scope) (x : Json) (v : Visit) → In v (scope W A b s x).visits → (scope_of v.place ≡ s) ⊎ IsBranchOf W A (scope W A b s x).visits v
+Sites W = (A : Answers) (b : Block) (s : Scope) (x : Json) (v : Visit) → In v (scope W A b s x).visits →
+    (scope_of v.place ≡ s) ⊎ IsBranchOf W A (scope W A b s x).visits v
 
 pub record Lawful (W : Ways) : Type 0 where
   pub growth : Growth W
@@ -68,8 +74,10 @@ pub record Lawful (W : Ways) : Type 0 where
 
 -- an input of a fan's branch is that with its index
 abbrev pub InputAt : Type 0
-InputAt = (st : State) (inputs : List Json) (i : ℕ) (c : Block) (x : Json) → slice_get (children st inputs) i ≡ Some (c, x) → slice_get inputs i ≡ Some x
+InputAt = (st : State) (inputs : List Json) (i : ℕ) (c : Block) (x : Json) → slice_get (children st inputs) i ≡ Some (c, x) →
+    slice_get inputs i ≡ Some x
 
 -- all branches of a fan with a limit are the same block
 abbrev pub OneBody : Type 0
-OneBody = (st : State) (inputs : List Json) → limit_of st ≢ 0 → (i k : ℕ) (c d : Block) (x y : Json) → slice_get (children st inputs) i ≡ Some (c, x) → slice_get (children st inputs) k ≡ Some (d, y) → c ≡ d
+OneBody = (st : State) (inputs : List Json) → limit_of st ≢ 0 → (i k : ℕ) (c d : Block) (x y : Json) →
+    slice_get (children st inputs) i ≡ Some (c, x) → slice_get (children st inputs) k ≡ Some (d, y) → c ≡ d

@@ -72,14 +72,17 @@ pub record MeetsJoin (b : Block) (s : Scope) (r : Run) (name : Text) (hop : ℕ)
   pub answer : visit.answer ≡ Some o
 
 -- the branches' runs stand in this run, and once all of them have ended the Join does
-pub record MeetsFan (W : Ways) (A : Answers) (b : Block) (s : Scope) (r : Run) (name : Text) (hop : ℕ) (raw : Json) (used : Used) (cs : List (Block × Json)) : Type 0 where
+pub record MeetsFan (W : Ways) (A : Answers) (b : Block) (s : Scope) (r : Run) (name : Text) (hop : ℕ) (raw : Json)
+    (used : Used) (cs : List (Block × Json)) : Type 0 where
   pub state : State
   pub inputs : List Json
   pub found : state_of b name ≡ Some state
   pub begins : W.begin name state raw ≡ Fans inputs
   pub children_are : cs ≡ children state inputs
-  pub branches : (i : ℕ) (c : Block) (x : Json) → slice_get cs i ≡ Some (c, x) → Within (scope W A c (child (at_hop s hop) i (length cs)) x).visits r.visits
-  pub join : (os : List Outcome) → gather (fan_runs W A (at_hop s hop) cs) ≡ All_ended os → MeetsJoin b s r name hop raw used (combine name os)
+  pub branches : (i : ℕ) (c : Block) (x : Json) → slice_get cs i ≡ Some (c, x) →
+      Within (scope W A c (child (at_hop s hop) i (length cs)) x).visits r.visits
+  pub join : (os : List Outcome) → gather (fan_runs W A (at_hop s hop) cs) ≡ All_ended os →
+      MeetsJoin b s r name hop raw used (combine name os)
   pub waits : (ps : List Place) → gather (fan_runs W A (at_hop s hop) cs) ≡ Some_wait ps → r.end ≡ Waits ps
 
 -- the run of the scope does what the stop says
@@ -124,10 +127,12 @@ pub record Stands (W : Ways) (A : Answers) (vs : List Visit) (v : Visit) : Type 
   pub within : Within (scope W A at_block at_scope enter.given).visits vs
   pub own : In v (scope W A at_block at_scope enter.given).visits
   pub sound : IsSound W A v v.visited
-  pub next : (o : Outcome) → v.answer ≡ Some o → Meets W A at_block at_scope (scope W A at_block at_scope enter.given) (after W at_block v.visited v.place.hop v.raw v.used o)
+  pub next : (o : Outcome) → v.answer ≡ Some o →
+      Meets W A at_block at_scope (scope W A at_block at_scope enter.given) (after W at_block v.visited v.place.hop v.raw v.used o)
 
 abbrev pub Standing : Ways → Type 0
-Standing W = (A : Answers) (b : Block) (s : Scope) (x : Json) (v : Visit) → In v (scope W A b s x).visits → Stands W A (scope W A b s x).visits v
+Standing W = (A : Answers) (b : Block) (s : Scope) (x : Json) (v : Visit) → In v (scope W A b s x).visits →
+    Stands W A (scope W A b s x).visits v
 
 -- in the order of names
 abbrev pub IsRising : List Visit → Type 0
@@ -147,33 +152,46 @@ Distinct W = (A : Answers) (b : Block) (s : Scope) (x : Json) → AreDistinct (s
 
 -- in one run a name has one visit
 abbrev pub OneVisit : Ways → Type 0
-OneVisit W = (A : Answers) (b : Block) (s : Scope) (x : Json) (v w : Visit) → In v (scope W A b s x).visits → In w (scope W A b s x).visits → name_of v ≡ name_of w → v ≡ w
+OneVisit W = (A : Answers) (b : Block) (s : Scope) (x : Json) (v w : Visit) → In v (scope W A b s x).visits →
+    In w (scope W A b s x).visits → name_of v ≡ name_of w → v ≡ w
 
 -- with more answers a name's visit keeps what it has
 abbrev pub SameVisit : Ways → Type 0
-SameVisit W = (A B : Answers) → Holds A B → (b : Block) (s : Scope) (x : Json) (v w : Visit) → In v (scope W A b s x).visits → In w (scope W B b s x).visits → name_of v ≡ name_of w → IsGrown v w
+SameVisit W = (A B : Answers) → Holds A B → (b : Block) (s : Scope) (x : Json) (v w : Visit) → In v (scope W A b s x).visits →
+    In w (scope W B b s x).visits → name_of v ≡ name_of w → IsGrown v w
 
--- what follows an answer of a visit stands in the run: a Call is a Task of it, a Fan has its branches there (or, with none, its Join), an End is the end of the visit's scope
+-- what follows an answer of a visit stands in the run: a Call is a Task of it, a Fan has its branches there (or, with none, its Join),
+-- an End is the end of the visit's scope
 abbrev pub FollowedBy : Ways → Answers → List Visit → Visit → Stop → Type 0
 FollowedBy W A vs v (Call name hop raw used) =
-    (w : Visit) × In w vs × (st : State) × (resource : Text) × (w.place ≡ at_hop (scope_of v.place) hop) × (w.block ≡ v.block) × (w.visited ≡ Called name resource) × (state_of v.block name ≡ Some st) × (W.begin name st raw ≡ Calls resource w.given) × (w.raw ≡ raw) × (w.used ≡ used)
+    (w : Visit) × In w vs × (st : State) × (resource : Text) × (w.place ≡ at_hop (scope_of v.place) hop) × (w.block ≡ v.block)
+    × (w.visited ≡ Called name resource) × (state_of v.block name ≡ Some st) × (W.begin name st raw ≡ Calls resource w.given)
+    × (w.raw ≡ raw) × (w.used ≡ used)
 FollowedBy W A vs v (Fan name hop raw used cs) =
-    ((i : ℕ) (c : Block) (x : Json) → slice_get cs i ≡ Some (c, x) → (w : Visit) × In w vs × (w.place ≡ at_hop (child (at_hop (scope_of v.place) hop) i (length cs)) 0) × (w.block ≡ c) × (w.visited ≡ Entered) × (w.given ≡ x))
-    × (cs ≡ [] → (w : Visit) × In w vs × (w.place ≡ at_hop (scope_of v.place) hop) × (w.block ≡ v.block) × (w.visited ≡ Joined name) × (w.given ≡ raw) × (w.used ≡ used))
+    ((i : ℕ) (c : Block) (x : Json) → slice_get cs i ≡ Some (c, x) →
+    (w : Visit) × In w vs × (w.place ≡ at_hop (child (at_hop (scope_of v.place) hop) i (length cs)) 0) × (w.block ≡ c)
+    × (w.visited ≡ Entered) × (w.given ≡ x))
+    × (cs ≡ [] → (w : Visit) × In w vs × (w.place ≡ at_hop (scope_of v.place) hop) × (w.block ≡ v.block)
+    × (w.visited ≡ Joined name) × (w.given ≡ raw) × (w.used ≡ used))
 FollowedBy W A vs v (Over o) =
-    (w : Visit) × In w vs × (w.place ≡ at_hop (scope_of v.place) 0) × (w.block ≡ v.block) × (w.visited ≡ Entered) × ((scope W A v.block (scope_of v.place) w.given).end ≡ Ended o)
+    (w : Visit) × In w vs × (w.place ≡ at_hop (scope_of v.place) 0) × (w.block ≡ v.block) × (w.visited ≡ Entered)
+    × ((scope W A v.block (scope_of v.place) w.given).end ≡ Ended o)
 
 abbrev pub Next : Ways → Type 0
-Next W = (A : Answers) (root : Block) (session : ℕ) (input : Json) (v : Visit) (o : Outcome) → In v (central W A root session input).visits → v.answer ≡ Some o → FollowedBy W A (central W A root session input).visits v (after W v.block v.visited v.place.hop v.raw v.used o)
+Next W = (A : Answers) (root : Block) (session : ℕ) (input : Json) (v : Visit) (o : Outcome) →
+    In v (central W A root session input).visits → v.answer ≡ Some o →
+    FollowedBy W A (central W A root session input).visits v (after W v.block v.visited v.place.hop v.raw v.used o)
 
 -- with more answers a machine's central run only grows
 abbrev pub CentralGrowth : Ways → Type 0
-CentralGrowth W = (A B : Answers) → Holds A B → (root : Block) (session : ℕ) (input : Json) → GrowsTo (central W A root session input) (central W B root session input)
+CentralGrowth W = (A B : Answers) → Holds A B → (root : Block) (session : ℕ) (input : Json) →
+    GrowsTo (central W A root session input) (central W B root session input)
 
 -- where a run waits: at its visits with no answer, and there is one
 pub record WaitsAre (r : Run) : Type 0 where
   pub open_waits : (v : Visit) → In v r.visits → v.answer ≡ None → (ps : List Place) × (r.end ≡ Waits ps) × In v.place ps
-  pub waits_open : (ps : List Place) → r.end ≡ Waits ps → (p : Place) → In p ps → (v : Visit) × In v r.visits × (v.place ≡ p) × (v.answer ≡ None)
+  pub waits_open : (ps : List Place) → r.end ≡ Waits ps → (p : Place) → In p ps →
+      (v : Visit) × In v r.visits × (v.place ≡ p) × (v.answer ≡ None)
   pub some : (ps : List Place) → r.end ≡ Waits ps → (p : Place) × In p ps
 
 abbrev pub Waiting : Ways → Type 0
@@ -183,20 +201,28 @@ Waiting W = (A : Answers) (b : Block) (s : Scope) (x : Json) → WaitsAre (scope
 abbrev pub AllAre : Ways → Answers → Place → List (Block × Json) → List Outcome → Type 0
 AllAre W A p cs os =
     (length os ≡ length cs)
-    × ((i : ℕ) (c : Block) (x : Json) → slice_get cs i ≡ Some (c, x) → (o : Outcome) × (slice_get os i ≡ Some o) × ((scope W A c (child p i (length cs)) x).end ≡ Ended o))
+    × ((i : ℕ) (c : Block) (x : Json) → slice_get cs i ≡ Some (c, x) →
+    (o : Outcome) × (slice_get os i ≡ Some o) × ((scope W A c (child p i (length cs)) x).end ≡ Ended o))
 
 abbrev pub BranchEnds : Ways → Type 0
 BranchEnds W = (A : Answers) (p : Place) (cs : List (Block × Json)) →
     ((os : List Outcome) → gather (fan_runs W A p cs) ≡ All_ended os → AllAre W A p cs os)
-    × (((i : ℕ) (c : Block) (x : Json) → slice_get cs i ≡ Some (c, x) → (o : Outcome) × ((scope W A c (child p i (length cs)) x).end ≡ Ended o)) → (os : List Outcome) × (gather (fan_runs W A p cs) ≡ All_ended os) × AllAre W A p cs os)
+    × (((i : ℕ) (c : Block) (x : Json) → slice_get cs i ≡ Some (c, x) →
+    (o : Outcome) × ((scope W A c (child p i (length cs)) x).end ≡ Ended o)) →
+    (os : List Outcome) × (gather (fan_runs W A p cs) ≡ All_ended os) × AllAre W A p cs os)
 
 -- a Join is visited exactly where every branch of its fan has ended
 abbrev pub JoinExactly : Ways → Type 0
-JoinExactly W = (A : Answers) (b : Block) (s : Scope) (x : Json) (v : Visit) (o : Outcome) (name : Text) (hop : ℕ) (raw : Json) (used : Used) (cs : List (Block × Json)) →
+JoinExactly W = (A : Answers) (b : Block) (s : Scope) (x : Json) (v : Visit) (o : Outcome) (name : Text) (hop : ℕ) (raw : Json)
+    (used : Used) (cs : List (Block × Json)) →
     In v (scope W A b s x).visits → v.answer ≡ Some o → after W v.block v.visited v.place.hop v.raw v.used o ≡ Fan name hop raw used cs →
     let p = at_hop (scope_of v.place) hop in
-    ((os : List Outcome) → gather (fan_runs W A p cs) ≡ All_ended os → (w : Visit) × In w (scope W A b s x).visits × (w.place ≡ p) × (w.block ≡ v.block) × (w.visited ≡ Joined name) × (w.raw ≡ raw) × (w.used ≡ used) × (w.answer ≡ Some (combine name os)))
-    × ((w : Visit) → In w (scope W A b s x).visits → (n : Text) → w.place ≡ p → w.visited ≡ Joined n → (os : List Outcome) × (gather (fan_runs W A p cs) ≡ All_ended os) × (n ≡ name) × (w.raw ≡ raw) × (w.used ≡ used) × (w.answer ≡ Some (combine name os)))
+    ((os : List Outcome) → gather (fan_runs W A p cs) ≡ All_ended os →
+    (w : Visit) × In w (scope W A b s x).visits × (w.place ≡ p) × (w.block ≡ v.block) × (w.visited ≡ Joined name)
+    × (w.raw ≡ raw) × (w.used ≡ used) × (w.answer ≡ Some (combine name os)))
+    × ((w : Visit) → In w (scope W A b s x).visits → (n : Text) → w.place ≡ p → w.visited ≡ Joined n →
+    (os : List Outcome) × (gather (fan_runs W A p cs) ≡ All_ended os) × (n ≡ name) × (w.raw ≡ raw) × (w.used ≡ used)
+    × (w.answer ≡ Some (combine name os)))
 
 abbrev pub AreInRange : List Seg → Type 0
 AreInRange [] = Unit {0}
@@ -220,7 +246,10 @@ Adding = (es : List (Place × Outcome)) (p : Place) (o : Outcome) → Holds (ans
 
 -- with an answer for a Task its visit has that answer
 abbrev pub Answering : Ways → Type 0
-Answering W = (A B : Answers) → Holds A B → (b : Block) (s : Scope) (x : Json) (v : Visit) (name resource : Text) (o : Outcome) → In v (scope W A b s x).visits → v.visited ≡ Called name resource → B v.place ≡ Some o → (w : Visit) × In w (scope W B b s x).visits × IsGrown v w × (w.answer ≡ Some o)
+Answering W = (A B : Answers) → Holds A B → (b : Block) (s : Scope) (x : Json) (v : Visit) (name resource : Text)
+    (o : Outcome) →
+    In v (scope W A b s x).visits → v.visited ≡ Called name resource → B v.place ≡ Some o →
+    (w : Visit) × In w (scope W B b s x).visits × IsGrown v w × (w.answer ≡ Some o)
 
 -- the places of the visits with no answer, in their order
 abbrev pub place_if_open : Option Outcome → Place → List Place
@@ -247,20 +276,26 @@ EndsAs W A vs s o = (u : Visit) × In u vs × (u.place ≡ at_hop s 0) × (u.vis
 
 -- a fan that some answer leads to, as its Saved holds it
 abbrev pub LeadsTo : Ways → Answers → List Visit → Place → Block → (state : Text) → (raw : Json) → Used → List (Block × Json) → Type 0
-LeadsTo W A vs p fb name raw used cs = (v : Visit) × In v vs × (v.block ≡ fb) × (o : Outcome) × (v.answer ≡ Some o) × (after W v.block v.visited v.place.hop v.raw v.used o ≡ Fan name p.hop raw used cs) × (p ≡ at_hop (scope_of v.place) p.hop)
+LeadsTo W A vs p fb name raw used cs = (v : Visit) × In v vs × (v.block ≡ fb) × (o : Outcome) × (v.answer ≡ Some o)
+    × (after W v.block v.visited v.place.hop v.raw v.used o ≡ Fan name p.hop raw used cs) × (p ≡ at_hop (scope_of v.place) p.hop)
 
 -- an Out that holds an end goes on holding it
 abbrev pub EndKept : Ways → Type 0
-EndKept W = (A B : Answers) → Holds A B → (b : Block) (s : Scope) (x : Json) (at : Scope) (o : Outcome) → EndsAs W A (scope W A b s x).visits at o → EndsAs W B (scope W B b s x).visits at o
+EndKept W = (A B : Answers) → Holds A B → (b : Block) (s : Scope) (x : Json) (at : Scope) (o : Outcome) →
+    EndsAs W A (scope W A b s x).visits at o → EndsAs W B (scope W B b s x).visits at o
 
 -- a Saved that holds a fan goes on holding it
 abbrev pub FanKept : Ways → Type 0
-FanKept W = (A B : Answers) → Holds A B → (b : Block) (s : Scope) (x : Json) (p : Place) (fb : Block) (name : Text) (raw : Json) (used : Used) (cs : List (Block × Json)) → LeadsTo W A (scope W A b s x).visits p fb name raw used cs → LeadsTo W B (scope W B b s x).visits p fb name raw used cs
+FanKept W = (A B : Answers) → Holds A B → (b : Block) (s : Scope) (x : Json) (p : Place) (fb : Block) (name : Text) (raw : Json)
+    (used : Used) (cs : List (Block × Json)) →
+    LeadsTo W A (scope W A b s x).visits p fb name raw used cs → LeadsTo W B (scope W B b s x).visits p fb name raw used cs
 
 -- once the Out of each branch is there the Join is, with their outcomes combined as its answer
 abbrev pub JoinReady : Ways → Type 0
-JoinReady W = (A : Answers) (b : Block) (s : Scope) (x : Json) (p : Place) (fb : Block) (name : Text) (raw : Json) (used : Used) (cs : List (Block × Json)) → LeadsTo W A (scope W A b s x).visits p fb name raw used cs →
+JoinReady W = (A : Answers) (b : Block) (s : Scope) (x : Json) (p : Place) (fb : Block) (name : Text) (raw : Json) (used : Used)
+    (cs : List (Block × Json)) → LeadsTo W A (scope W A b s x).visits p fb name raw used cs →
     ((i : ℕ) → i < length cs → (o : Outcome) × EndsAs W A (scope W A b s x).visits (child p i (length cs)) o) →
     (os : List Outcome) × (length os ≡ length cs)
     × ((i : ℕ) (o : Outcome) → EndsAs W A (scope W A b s x).visits (child p i (length cs)) o → i < length cs → slice_get os i ≡ Some o)
-    × (w : Visit) × In w (scope W A b s x).visits × (w.place ≡ p) × (w.block ≡ fb) × (w.visited ≡ Joined name) × (w.raw ≡ raw) × (w.used ≡ used) × (w.answer ≡ Some (combine name os))
+    × (w : Visit) × In w (scope W A b s x).visits × (w.place ≡ p) × (w.block ≡ fb) × (w.visited ≡ Joined name) × (w.raw ≡ raw)
+    × (w.used ≡ used) × (w.answer ≡ Some (combine name os))

@@ -1,3 +1,4 @@
+-- Definitions of machines, their central runs, validity, and the numbers of functions.
 pub mod Data
 pub mod Shapes
 pub mod Names

@@ -1,5 +1,5 @@
 -- Machines as plain trees.
--- Amazon States Language, "Structure of a State Machine", "State Types", "Parallel State" and "Map State".
+-- Source: Amazon States Language, "Structure of a State Machine", "State Types", "Parallel State" and "Map State".
 use Rattle.std.specs.Prelude.{ℕ, suc, max, map, List, [], ◌∷◌, length, Option, Some, None, if◌then◌else◌}
 use Rattle.asl_model.specs.Data.{Text, Json, Shape, Path, Template, same_text, repeat}
 pub use Rattle.asl_model.specs.declared.machine.After.{After}

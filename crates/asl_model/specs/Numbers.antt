@@ -22,7 +22,8 @@ IsVisitIn b v = (v ≡ Entered) ⊎ ((name : Text) × (s : State) × (state_of b
 
 -- a number stands for a block of the machine with what is visited there
 abbrev pub NumberMeans : Type 0
-NumberMeans = (root : Block) → HasRisingNames root → (f : ℕ) (x : Function) → function_at root f ≡ Some x → In x.0 (blocks root) × IsVisitIn x.0 x.1
+NumberMeans = (root : Block) → HasRisingNames root → (f : ℕ) (x : Function) → function_at root f ≡ Some x →
+    In x.0 (blocks root) × IsVisitIn x.0 x.1
 
 -- each block of the machine has a number for each that is visited there
 abbrev pub EachHasNumber : Type 0
@@ -30,11 +31,13 @@ EachHasNumber = (root : Block) (b : Block) (v : Visited) → In b (blocks root) 
 
 -- and it has one number
 abbrev pub OneNumber : Type 0
-OneNumber = (root : Block) → IsValid root → HasRisingNames root → (f g : ℕ) (x : Function) → function_at root f ≡ Some x → function_at root g ≡ Some x → f ≡ g
+OneNumber = (root : Block) → IsValid root → HasRisingNames root → (f g : ℕ) (x : Function) → function_at root f ≡ Some x →
+    function_at root g ≡ Some x → f ≡ g
 
 -- so each visit of a central run has a function
 abbrev pub VisitHasNumber : Type 0
-VisitHasNumber = (root : Block) (A : Answers) (session : ℕ) (input : Json) (v : Visit) → In v (central standard A root session input).visits → (f : ℕ) × (function_at root f ≡ Some (v.block, v.visited))
+VisitHasNumber = (root : Block) (A : Answers) (session : ℕ) (input : Json) (v : Visit) →
+    In v (central standard A root session input).visits → (f : ℕ) × (function_at root f ≡ Some (v.block, v.visited))
 
 -- a state of the machine is found by its name
 abbrev pub StateFound : Type 0
@@ -42,4 +45,5 @@ StateFound = (root : Block) → HasRisingNames root → (b : Block) → In b (bl
 
 -- the name of each visit of a valid machine's central run is in the ranges of names
 abbrev pub NamesInRange : Type 0
-NamesInRange = (root : Block) → IsValid root → (A : Answers) (session : ℕ) → session < SESSIONS → (input : Json) (v : Visit) → In v (central standard A root session input).visits → IsName (name_of v)
+NamesInRange = (root : Block) → IsValid root → (A : Answers) (session : ℕ) → session < SESSIONS → (input : Json) (v : Visit) →
+    In v (central standard A root session input).visits → IsName (name_of v)

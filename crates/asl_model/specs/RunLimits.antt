@@ -1,5 +1,5 @@
 -- Where the limits of a run stand: one more is too much.
--- Amazon States Language, "Parallel State", "Map State" and "Errors".
+-- Source: Amazon States Language, "Parallel State", "Map State" and "Errors".
 use Rattle.std.specs.Prelude.{◌≡◌, ℕ, List, [], map, length, Option, Some, None, Ok, Err, codes}
 use Rattle.unum_json.specs.declared.value.Json as json
 use Rattle.unum_json.specs.Tree.{nodes, depth}
@@ -29,7 +29,8 @@ past_the_data_limit state = Failed (record { error = codes "Unum.DataLimit"; cau
 
 -- a scope enters 2,000 states, which stand here after its Enter, and ends with the name of the next
 abbrev pub HopsEnd : Type 0
-HopsEnd = (length (central plainly always turns 0 null).visits ≡ 2001) × ((central plainly always turns 0 null).end ≡ Ended (at_the_hop_limit (codes "A")))
+HopsEnd = (length (central plainly always turns 0 null).visits ≡ 2001)
+    × ((central plainly always turns 0 null).end ≡ Ended (at_the_hop_limit (codes "A")))
 
 -- a state may be entered at hop 1,999 and not at hop 2,000
 abbrev pub StretchEnds : Type 0

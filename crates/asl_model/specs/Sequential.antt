@@ -69,4 +69,5 @@ module _ (root : Block) (session : ℕ) (input : Json) (call : Functions) where
 
 -- so many answers are enough: the sequential run has ended
 abbrev pub SequentialEnds : Type 0
-SequentialEnds = (root : Block) (session : ℕ) (input : Json) (call : Functions) → (o : Outcome) × ((sequential root session input call).end ≡ Ended o)
+SequentialEnds = (root : Block) (session : ℕ) (input : Json) (call : Functions) →
+    (o : Outcome) × ((sequential root session input call).end ≡ Ended o)

@@ -1,5 +1,5 @@
 -- What of a state's data flow its type may have: every other path is `$`, and every other template is missing.
--- Amazon States Language, the table of fields in "State Types".
+-- Source: Amazon States Language, the table of fields in "State Types".
 use Rattle.std.specs.Prelude.{◌≡◌, [], Some, None}
 use Rattle.asl_shape.specs.Stages.{Stages}
 

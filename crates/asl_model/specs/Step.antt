@@ -19,7 +19,8 @@ pub record Ways : Type 0 where
 
 -- each fan has one input for each branch
 abbrev pub HasOneEach : Ways → Type 0
-HasOneEach W = (name : Text) (s : State) (raw : Json) (inputs : List Json) → W.begin name s raw ≡ Fans inputs → length (branches_of s (length inputs)) ≡ length inputs
+HasOneEach W = (name : Text) (s : State) (raw : Json) (inputs : List Json) → W.begin name s raw ≡ Fans inputs →
+    length (branches_of s (length inputs)) ≡ length inputs
 
 -- the ways of the profile's states
 unfoldable pub standard : Ways

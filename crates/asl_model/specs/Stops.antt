@@ -25,17 +25,22 @@ FitsAgain b name (Some used) = FitsState b name used
 -- a Call is of a Task, and a Fan of a fan with these branches, at a hop below 2,000
 abbrev pub StopMeans : Block → Stop → Type 0
 StopMeans b (Call name hop raw used) =
-    (s : State) × (resource : Text) × (effective : Json) × (hop < hop_limit) × (state_of b name ≡ Some s) × (standard.begin name s raw ≡ Calls resource effective) × (length used ≡ length (care_of s).retry)
+    (s : State) × (resource : Text) × (effective : Json) × (hop < hop_limit) × (state_of b name ≡ Some s)
+    × (standard.begin name s raw ≡ Calls resource effective) × (length used ≡ length (care_of s).retry)
 StopMeans b (Fan name hop raw used branches) =
-    (s : State) × (inputs : List Json) × (hop < hop_limit) × (state_of b name ≡ Some s) × (standard.begin name s raw ≡ Fans inputs) × (branches ≡ children s inputs) × (length used ≡ length (care_of s).retry)
+    (s : State) × (inputs : List Json) × (hop < hop_limit) × (state_of b name ≡ Some s)
+    × (standard.begin name s raw ≡ Fans inputs) × (branches ≡ children s inputs) × (length used ≡ length (care_of s).retry)
 StopMeans b (Over o) = Unit {0}
 
 abbrev pub StretchMeans : Type 0
-StretchMeans = (b : Block) (name : Text) (hop : ℕ) (raw : Json) (again : Option Used) → FitsAgain b name again → StopMeans b (stretch standard b name hop raw again)
+StretchMeans = (b : Block) (name : Text) (hop : ℕ) (raw : Json) (again : Option Used) → FitsAgain b name again →
+    StopMeans b (stretch standard b name hop raw again)
 
 abbrev pub AfterMeans : Type 0
-AfterMeans = (b : Block) (visited : Visited) (hop : ℕ) (raw : Json) (used : Used) (o : Outcome) → FitsVisited b visited used → StopMeans b (after standard b visited hop raw used o)
+AfterMeans = (b : Block) (visited : Visited) (hop : ℕ) (raw : Json) (used : Used) (o : Outcome) → FitsVisited b visited used →
+    StopMeans b (after standard b visited hop raw used o)
 
 -- the list of each visit of a run fits
 abbrev pub UsedFits : Type 0
-UsedFits = (A : Answers) (b : Block) (s : Scope) (x : Json) (v : Visit) → In v (scope standard A b s x).visits → FitsVisited v.block v.visited v.used
+UsedFits = (A : Answers) (b : Block) (s : Scope) (x : Json) (v : Visit) → In v (scope standard A b s x).visits →
+    FitsVisited v.block v.visited v.used

@@ -37,7 +37,8 @@ module _ (W : Ways) where
   -- the first stop, where so many states may still be entered
   abbrev pub first_stop : Block → ℕ → Text → ℕ → Json → Option Used → Stop
   first_stop b zero name hop raw again = Over (failure hop_limit_error name)
-  first_stop b (suc left) name hop raw again = stop_in name (state_of b name) hop raw again (λ next v again. first_stop b left next (suc hop) v again)
+  first_stop b (suc left) name hop raw again =
+      stop_in name (state_of b name) hop raw again (λ next v again. first_stop b left next (suc hop) v again)
 
   abbrev pub stretch : Block → (state : Text) → (hop : ℕ) → Json → Option Used → Stop
   stretch b name hop v again = first_stop b (hop_limit - hop) name hop v again

@@ -1,5 +1,5 @@
 -- The rules of validity, and the list of all that a machine breaks.
--- Amazon States Language, "Structure of a State Machine", "States", "Transitions", "Choice State", "Parallel State",
+-- Source: Amazon States Language, "Structure of a State Machine", "States", "Transitions", "Choice State", "Parallel State",
 -- "Map State" and "Errors". The bounds are this project's own.
 use Rattle.std.specs.Prelude.{ℕ, suc, ◌+◌, Bool, true, false, not, ◌&&◌, ◌||◌, ◌==◌, nat_lt, ◌≡◌, ◌↔◌, ◌⊎◌, ◌<◌, ◌≤◌, slice_get, map, filter, flat_map, is_some, if◌then◌else◌, length, List, [], ◌∷◌, ◌++◌, Option, Some, None}
 use Rattle.std.specs.Bool.{beq}
@@ -189,7 +189,8 @@ pub record IsCareful (care : Care) : Type 0 where
 pub record IsValid (root : Block) : Type 0 where
   pub starts : (b : Block) → In b (blocks root) → HasState b (start_of b)
   pub goes : EachState root (λ n r. (name : Text) → LeadsTo r.1 name → HasState n.block name)
-  pub apart : (i j : ℕ) (b c : Block) → i < j → slice_get (blocks root) i ≡ Some b → slice_get (blocks root) j ≡ Some c → (name : Text) → In name (map (λ (r : Row). r.0) (rows b)) → HasState c name → ⊥
+  pub apart : (i j : ℕ) (b c : Block) → i < j → slice_get (blocks root) i ≡ Some b → slice_get (blocks root) j ≡ Some c →
+      (name : Text) → In name (map (λ (r : Row). r.0) (rows b)) → HasState c name → ⊥
   pub named : EachState root (λ n r. (0 < length (chars r.0)) × (length (chars r.0) ≤ 80))
   pub decided : EachState root (λ n r. HasOneAfter r.1)
   pub parts : EachState root (λ n r. HasParts r.1)

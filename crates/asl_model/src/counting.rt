@@ -1,3 +1,5 @@
+//! How many states a machine has.
+
 ghost use Rattle.std.specs.Prelude.{◌≡◌, ◌-◌, ◌^◌, min, map, length};
 ghost use Rattle.asl_model.specs.Blocks.{nodes};
 ghost use Rattle.asl_model.specs.Tree.{block_tree, blocks_from, state_tree, states_from, tree_of};

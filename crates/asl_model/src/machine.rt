@@ -1,3 +1,5 @@
+//! State machines: their blocks, their states, and what these have.
+
 ghost use Rattle.std.specs.Prelude.{◌≡◌, option_map};
 ghost use Rattle.std.specs.Option.{option_copied};
 ghost use Rattle.asl_model.specs.Machine.{state_of};
@@ -26,7 +28,9 @@ pub struct After {
 /// Source: Amazon States Language, "Choice State".
 #[derive(Drop)]
 pub struct TopRule {
+    /// When it leads there.
     pub rule: Rule,
+    /// The state that follows.
     pub next: Text,
 }
 
@@ -59,7 +63,9 @@ pub struct Catcher {
 /// Source: Amazon States Language, "Errors".
 #[derive(Drop)]
 pub struct Care {
+    /// Which errors are tried again, and how often.
     pub retry: Items<Retrier>,
+    /// Which errors lead to another state.
     pub catch: Items<Catcher>,
 }
 
@@ -147,5 +153,6 @@ impl Block {
 /// Source: Amazon States Language, "Structure of a State Machine".
 #[derive(Drop)]
 pub struct Machine {
+    /// The block that a session enters.
     pub root: Block,
 }

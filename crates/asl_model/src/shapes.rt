@@ -1,3 +1,5 @@
+//! The data flow of states that have only some fields of a shape.
+
 ghost use Rattle.std.specs.Prelude.{◌≡◌, IsTrue};
 ghost use Rattle.asl_model.specs.Shapes.{HasNoSelector, HasPathsOnly, HasNoParameters};
 
@@ -29,6 +31,7 @@ impl Model for PassShape {
 }
 
 impl PassShape {
+    /// The data flow of a shape that has no ResultSelector.
     pub fn from_shape(shape: Shape) -> PassShape
         requires { HasNoSelector shape }
         ensures { result ≡ shape }
@@ -36,6 +39,7 @@ impl PassShape {
         PassShape { shape }
     }
 
+    /// The shape that it is.
     pub fn shape(&self) -> &Shape
         ensures value { result.now ≡ self.now }
         ensures fits { HasNoSelector self.now }
@@ -68,6 +72,7 @@ impl Model for PathShape {
 }
 
 impl PathShape {
+    /// The data flow of a shape that has no field but InputPath and OutputPath.
     pub fn from_shape(shape: Shape) -> PathShape
         requires { HasPathsOnly shape }
         ensures { result ≡ shape }
@@ -75,6 +80,7 @@ impl PathShape {
         PathShape { shape }
     }
 
+    /// The shape that it is.
     pub fn shape(&self) -> &Shape
         ensures value { result.now ≡ self.now }
         ensures fits { HasPathsOnly self.now }
@@ -107,6 +113,7 @@ impl Model for MapShape {
 }
 
 impl MapShape {
+    /// The data flow of a shape that has no Parameters.
     pub fn from_shape(shape: Shape) -> MapShape
         requires { HasNoParameters shape }
         ensures { result ≡ shape }
@@ -114,6 +121,7 @@ impl MapShape {
         MapShape { shape }
     }
 
+    /// The shape that it is.
     pub fn shape(&self) -> &Shape
         ensures value { result.now ≡ self.now }
         ensures fits { HasNoParameters self.now }
@@ -146,6 +154,7 @@ impl Model for ItemTemplate {
 }
 
 impl ItemTemplate {
+    /// The item template that a template is, which was read with the paths into an item.
     pub fn from_template(template: Template) -> ItemTemplate
         requires { IsTrue template.item }
         ensures { result ≡ template }
@@ -153,6 +162,7 @@ impl ItemTemplate {
         ItemTemplate { template }
     }
 
+    /// The template that it is.
     pub fn template(&self) -> &Template
         ensures value { result.now ≡ self.now }
         ensures item { IsTrue self.now.item }

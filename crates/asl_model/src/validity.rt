@@ -1,3 +1,5 @@
+//! The rules of validity, and what is told where one is broken.
+
 use unum_json::Text;
 
 /// A rule of validity.
@@ -35,6 +37,8 @@ pub enum VRule {
 /// name, and for too many states the StartAt of the root.
 #[derive(Debug, Drop)]
 pub struct BrokenRule {
+    /// The rule.
     pub rule: VRule,
+    /// The name that is told with it.
     pub state: Text,
 }

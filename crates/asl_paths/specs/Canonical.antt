@@ -1,5 +1,5 @@
--- The canonical form of a template's value: the same value, with the canonical text of each path (Amazon States Language,
--- "Payload Template").
+-- The canonical form of a template's value: the same value, with the canonical text of each path.
+-- Source: Amazon States Language, "Payload Template".
 use Rattle.std.specs.Prelude.{ℕ, ◌+◌, Bool, true, false, if◌then◌else◌, List, [], ◌∷◌, ◌++◌, map, take, drop, codes, Option, Some, None, flat_map, Result, Ok, ◌≡◌}
 use Rattle.std.specs.Str.{bytes_eq}
 use Rattle.unum_json.specs.declared.value.Json.{Json, fold-Json, out-Json}

@@ -20,7 +20,8 @@ Part path other =
 -- a path that parts from the one that is put at finds what it found before
 abbrev pub PutKeepsOthers : Type 0
 PutKeepsOthers =
-    (path other : List PathStep) (raw made after : Json) → Part path other → put path raw made ≡ Some after → get other after ≡ get other raw
+    (path other : List PathStep) (raw made after : Json) → Part path other → put path raw made ≡ Some after →
+    get other after ≡ get other raw
 
 -- the canonical text of a path reads as the path
 abbrev pub PathsReadBack : Type 0

@@ -1,3 +1,5 @@
+//! Equal copies of paths and templates.
+
 ghost use Rattle.std.specs.Prelude.{◌≡◌, IfOk};
 
 use crate::adding::add_field;

@@ -1,3 +1,5 @@
+//! Laws of paths. Each function's contract is a law, and it does nothing.
+
 ghost use Rattle.asl_paths.specs.Laws.{PathsReadBack, PutIsFound, PutKeepsOthers};
 
 /// What was put at a path is found there.

@@ -1,2 +1,3 @@
+-- Lemmas on the reader of machines.
 pub mod Lists
 pub mod Inside

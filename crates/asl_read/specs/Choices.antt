@@ -1,5 +1,5 @@
 -- The operators of choice rules, and which rules are malformed.
--- Amazon States Language, "Choice State".
+-- Source: Amazon States Language, "Choice State".
 use Rattle.std.specs.Prelude.{ℕ, ◌==◌, Bool, true, false, not, ◌&&◌, ◌||◌, if◌then◌else◌, suc, List, [], ◌∷◌, codes, Option, Some, is_some}
 use Rattle.std.specs.Str.{bytes_eq}
 use Rattle.serde_json.specs.Data.{Data, array, string, no_items}
@@ -17,11 +17,13 @@ abbrev pub operators : Operators
 operators =
     (codes "StringEquals", Text Equal) ∷ (codes "StringLessThan", Text Less) ∷ (codes "StringLessThanEquals", Text LessEqual)
     ∷ (codes "StringGreaterThan", Text Greater) ∷ (codes "StringGreaterThanEquals", Text GreaterEqual)
-    ∷ (codes "StringEqualsPath", TextAt Equal) ∷ (codes "StringLessThanPath", TextAt Less) ∷ (codes "StringLessThanEqualsPath", TextAt LessEqual)
+    ∷ (codes "StringEqualsPath", TextAt Equal) ∷ (codes "StringLessThanPath", TextAt Less)
+    ∷ (codes "StringLessThanEqualsPath", TextAt LessEqual)
     ∷ (codes "StringGreaterThanPath", TextAt Greater) ∷ (codes "StringGreaterThanEqualsPath", TextAt GreaterEqual)
     ∷ (codes "NumericEquals", Number Equal) ∷ (codes "NumericLessThan", Number Less) ∷ (codes "NumericLessThanEquals", Number LessEqual)
     ∷ (codes "NumericGreaterThan", Number Greater) ∷ (codes "NumericGreaterThanEquals", Number GreaterEqual)
-    ∷ (codes "NumericEqualsPath", NumberAt Equal) ∷ (codes "NumericLessThanPath", NumberAt Less) ∷ (codes "NumericLessThanEqualsPath", NumberAt LessEqual)
+    ∷ (codes "NumericEqualsPath", NumberAt Equal) ∷ (codes "NumericLessThanPath", NumberAt Less)
+    ∷ (codes "NumericLessThanEqualsPath", NumberAt LessEqual)
     ∷ (codes "NumericGreaterThanPath", NumberAt Greater) ∷ (codes "NumericGreaterThanEqualsPath", NumberAt GreaterEqual)
     ∷ (codes "BooleanEquals", Truth) ∷ (codes "BooleanEqualsPath", TruthAt) ∷ (codes "StringMatches", Matches)
     ∷ (codes "IsNull", IsNull) ∷ (codes "IsPresent", IsPresent) ∷ (codes "IsNumeric", IsNumeric) ∷ (codes "IsString", IsString)

@@ -29,18 +29,23 @@ IsRefused d rule at = first (machine_faults d) ≡ Some (record { rule = rule; a
 
 -- an unknown field is found before the missing Resource
 abbrev pub UnknownBeforeMissing : Type 0
-UnknownBeforeMissing = IsRefused (only (codes "A") (an_object ((codes "Foo", null) ∷ a_type (codes "Task") ∷ []))) L4 (codes "/States/A/Foo")
+UnknownBeforeMissing = IsRefused (only (codes "A") (an_object ((codes "Foo", null) ∷ a_type (codes "Task") ∷ []))) L4
+    (codes "/States/A/Foo")
 
 abbrev pub WaitIsLeftOut : Type 0
 WaitIsLeftOut = IsRefused (only (codes "W") (an_object (a_type (codes "Wait") ∷ []))) L5 (codes "/States/W/Type")
 
 -- an Iterator stands beside an ItemProcessor, whatever both are
 abbrev pub NeverBoth : Type 0
-NeverBoth = IsRefused (only (codes "M") (an_object ((codes "ItemProcessor", null) ∷ (codes "Iterator", null) ∷ a_type (codes "Map") ∷ []))) L4 (codes "/States/M/Iterator")
+NeverBoth = IsRefused
+    (only (codes "M") (an_object ((codes "ItemProcessor", null) ∷ (codes "Iterator", null) ∷ a_type (codes "Map") ∷ [])))
+    L4 (codes "/States/M/Iterator")
 
 -- a number with a point is not whole
 abbrev pub FloatIsNotWhole : Type 0
-FloatIsNotWhole = (x : Float) → IsRefused (only (codes "P") (an_object ((codes "Result", number (float x)) ∷ a_type (codes "Pass") ∷ []))) L8 (codes "/States/P/Result")
+FloatIsNotWhole = (x : Float) →
+    IsRefused (only (codes "P") (an_object ((codes "Result", number (float x)) ∷ a_type (codes "Pass") ∷ []))) L8
+    (codes "/States/P/Result")
 
 abbrev pub succeed : Data
 succeed = only (codes "A") (an_object ((codes "OutputPath", null) ∷ a_type (codes "Succeed") ∷ []))
@@ -52,6 +57,8 @@ NullIsNoPath =
     × (machine_of succeed ≡ record {
       root = record {
         start = codes "A";
-        states = (codes "A", state.Succeed (record { input = Some []; parameters = None; selector = None; result = Some []; output = None })) ∷ [];
+        states =
+            (codes "A", state.Succeed (record { input = Some []; parameters = None; selector = None; result = Some []; output = None }))
+            ∷ [];
       };
     })

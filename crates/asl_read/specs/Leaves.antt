@@ -1,5 +1,5 @@
 -- Which rules a value breaks that is read as a whole.
--- Amazon States Language, "Paths", "Reference Paths" and "Payload Template".
+-- Source: Amazon States Language, "Paths", "Reference Paths" and "Payload Template".
 use Rattle.std.specs.Prelude.{ℕ, Bool, true, false, List, [], ◌∷◌, codes, Some, None, is_some, Result, Ok, Err}
 use Rattle.std.specs.Str.{bytes_eq}
 use Rattle.serde_json.specs.Data.{Data}

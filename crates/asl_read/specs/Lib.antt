@@ -1,3 +1,4 @@
+-- Definitions of the reader of machines.
 pub mod Objects
 pub mod Names
 pub mod Checks

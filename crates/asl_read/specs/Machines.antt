@@ -1,5 +1,5 @@
 -- The machine that a value spells.
--- Amazon States Language, "Structure of a State Machine", "State Types", "Parallel State" and "Map State".
+-- Source: Amazon States Language, "Structure of a State Machine", "State Types", "Parallel State" and "Map State".
 use Rattle.std.specs.Prelude.{List, [], ◌∷◌, map, codes, Option, Some, None, option_map, unwrap_or}
 use Rattle.serde_json.specs.Data.{Data, null, boolean, number, string, array, object, Items, no_items, item, Members, no_members, member}
 use Rattle.serde_json.specs.Find.{get}
@@ -30,7 +30,8 @@ type_of d = unwrap_or (find_key (text_in (codes "Type") d) state_types) Fail
 abbrev pub state_by : StateType → Data → (branches : Option (List Block)) → (body : Option Block) → State
 state_by Task d branches body = state.Task (shape_in d) (text_in (codes "Resource") d) (after_in d) (care_in d)
 state_by Pass d branches body = state.Pass (pass_shape_in d) (option_map json_of (get (codes "Result") d)) (after_in d)
-state_by Choice d branches body = state.Choice (path_shape_in d) (map top_rule_of (list_in (codes "Choices") d)) (text_if (codes "Default") d)
+state_by Choice d branches body =
+    state.Choice (path_shape_in d) (map top_rule_of (list_in (codes "Choices") d)) (text_if (codes "Default") d)
 state_by Succeed d branches body = state.Succeed (path_shape_in d)
 state_by Fail d branches body = state.Fail (text_in (codes "Error") d) (text_in (codes "Cause") d)
 state_by Parallel d branches body = state.Parallel (shape_in d) (unwrap_or branches []) (after_in d) (care_in d)
@@ -62,7 +63,8 @@ abbrev pub blocked_by : Data → (items : List Blocked) → (members : List (Key
 blocked_by d items members = record {
   block = block_by d (states_at (codes "States") members);
   blocks = map (λ (b : Blocked). b.block) items;
-  state = state_by (type_of d) d (blocks_at (codes "Branches") members) (or_else (block_at (codes "ItemProcessor") members) (block_at (codes "Iterator") members));
+  state = state_by (type_of d) d (blocks_at (codes "Branches") members)
+      (or_else (block_at (codes "ItemProcessor") members) (block_at (codes "Iterator") members));
   states = map (λ (m : Key × Blocked). (m.0, m.1.state)) members;
 }
 

@@ -1,5 +1,5 @@
 -- The fields that the profile leaves out by name.
--- Amazon States Language, "Task State", "Map State", "Fail State", "Choice State" and "Data Transformation".
+-- Source: Amazon States Language, "Task State", "Map State", "Fail State", "Choice State" and "Data Transformation".
 use Rattle.std.specs.Prelude.{nat_eq, Bool, true, false, ◌||◌, List, [], ◌∷◌, codes}
 use Rattle.std.specs.List.{starts_with}
 use Rattle.std.specs.Str.{bytes_eq}

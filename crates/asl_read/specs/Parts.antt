@@ -2,7 +2,7 @@
 --
 -- Each definition gives some value also where the value is of another type. No such value is ever handed out, since it
 -- breaks a rule.
--- Amazon States Language, "Paths", "Reference Paths", "Payload Template", "Input and Output Processing" and "Errors".
+-- Source: Amazon States Language, "Paths", "Reference Paths", "Payload Template", "Input and Output Processing" and "Errors".
 use Rattle.std.specs.Prelude.{ℕ, Bool, true, false, List, [], ◌∷◌, map, codes, Option, Some, None, option_map, option_and_then, unwrap_or, Result, Ok, Err, ℤ, pos, negsuc, nat_le, if◌then◌else◌}
 use Rattle.serde_json.specs.Data.{Data, null, array, Items, no_items, item}
 use Rattle.serde_json.specs.Find.{get, as_bool, as_str, as_number, as_i64}

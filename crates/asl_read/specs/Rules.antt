@@ -1,5 +1,5 @@
 -- The rule of a Choice that a value spells.
--- Amazon States Language, "Choice State".
+-- Source: Amazon States Language, "Choice State".
 use Rattle.std.specs.Prelude.{ℕ, true, List, [], ◌∷◌, map, codes, Option, Some, None, option_map, unwrap_or}
 use Rattle.std.specs.Borrow.{Bor}
 use Rattle.serde_json.specs.Data.{Data, null, boolean, number, string, array, object, Items, no_items, item, Members, no_members, member}

@@ -1,5 +1,5 @@
 -- The table of fields: for each kind of object its keys, which of them have to be there, and how their values are read.
--- Amazon States Language, "Structure of a State Machine", the table of fields in "State Types", "Errors" and "Choice State".
+-- Source: Amazon States Language, "Structure of a State Machine", the table of fields in "State Types", "Errors" and "Choice State".
 use Rattle.std.specs.Prelude.{List, [], ◌∷◌, ◌++◌, map, codes}
 use Rattle.asl_read.specs.Objects.{Key, Row, required_unless, not_beside, must, may, how_at}
 use Rattle.asl_read.specs.Choices.{operators, joins}
@@ -54,7 +54,8 @@ state_fields state.Pass = common ++ (may (codes "Result") Data ∷ []) ++ in_out
 state_fields state.Choice = common ++ (must (codes "Choices") (Each TopRule) ∷ may (codes "Default") Text ∷ []) ++ in_out
 state_fields state.Succeed = common ++ in_out
 state_fields state.Fail = common ++ (may (codes "Error") Text ∷ may (codes "Cause") Text ∷ [])
-state_fields state.Parallel = common ++ (must (codes "Branches") (Each Branch) ∷ []) ++ in_out ++ parameters ++ selector ++ result_path ++ onward ++ care
+state_fields state.Parallel = common ++ (must (codes "Branches") (Each Branch) ∷ []) ++ in_out ++ parameters ++ selector
+    ++ result_path ++ onward ++ care
 state_fields state.Map =
     common
     ++ (record { key = codes "ItemProcessor"; need = required_unless (codes "Iterator" ∷ []); how = Object ItemBody } ∷ [])
@@ -91,9 +92,11 @@ table ItemBody = block ++ (may (codes "ProcessorConfig") (Object ProcessorConfig
 table ProcessorConfig = may (codes "Mode") Mode ∷ []
 table (State type) = state_fields type
 table Retrier =
-    (must (codes "ErrorEquals") Texts ∷ may (codes "MaxAttempts") Whole ∷ may (codes "IntervalSeconds") Unread ∷ may (codes "BackoffRate") Unread ∷ [])
+    (must (codes "ErrorEquals") Texts ∷ may (codes "MaxAttempts") Whole ∷ may (codes "IntervalSeconds") Unread
+    ∷ may (codes "BackoffRate") Unread ∷ [])
     ++ (may (codes "MaxDelaySeconds") Unread ∷ may (codes "JitterStrategy") Unread ∷ may (codes "Comment") Unread ∷ [])
-table Catcher = must (codes "ErrorEquals") Texts ∷ must (codes "Next") Text ∷ may (codes "ResultPath") PathOrNull ∷ may (codes "Comment") Unread ∷ []
+table Catcher = must (codes "ErrorEquals") Texts ∷ must (codes "Next") Text ∷ may (codes "ResultPath") PathOrNull
+    ∷ may (codes "Comment") Unread ∷ []
 table TopRule = must (codes "Next") Text ∷ rule
 table InnerRule = may (codes "Next") Text ∷ rule
 table FlatRule = must (codes "Next") Whole ∷ rule

@@ -1,3 +1,5 @@
+//! The rules of reading, and what is told of the first that is broken.
+
 ghost use Rattle.std.specs.Prelude.{◌≡◌, [], ◌∷◌, ◌++◌, List, ℕ, IfOk};
 ghost use Rattle.unum_json.specs.Whole.{index_step, key_step};
 ghost use Rattle.asl_read.specs.Objects.{Broken, under};

@@ -26,8 +26,11 @@ pub enum Need {
 /// A field of a kind of object: its key, when it has to be there, and how its value is read.
 #[derive(Clone, Copy)]
 pub struct Row<H> {
+    /// The key.
     pub key: &'static str,
+    /// When it has to be there.
     pub need: Need,
+    /// How its value is read.
     pub how: H,
 }
 

@@ -7,25 +7,38 @@ use choice_rules::Rel;
 /// Source: Amazon States Language, "State Types".
 #[derive(Clone, Copy)]
 pub enum StateType {
+    /// It calls a function.
     Task,
+    /// It hands on what it is given, or a value of its own.
     Pass,
+    /// It goes on as the first of its rules says that matches.
     Choice,
+    /// It ends its scope with a value.
     Succeed,
+    /// It ends its scope with a fault.
     Fail,
+    /// It runs each of its branches.
     Parallel,
+    /// It runs its one body for each item of an array.
     Map,
 }
 
 /// A kind of object, which has a table of fields.
 #[derive(Clone, Copy)]
 pub enum Kind {
+    /// A state machine.
     Machine,
+    /// A branch of a Parallel.
     Branch,
     /// An ItemProcessor, or an Iterator.
     ItemBody,
+    /// The ProcessorConfig of an ItemProcessor.
     ProcessorConfig,
+    /// A state of this type.
     State(StateType),
+    /// A retrier.
     Retrier,
+    /// A catcher.
     Catcher,
     /// A rule of Choices.
     TopRule,
@@ -40,6 +53,7 @@ pub enum Kind {
 pub enum How {
     /// It is accepted and not read.
     Unread,
+    /// A text.
     Text,
     /// A truth value.
     Truth,

@@ -1,5 +1,5 @@
--- What the data flow makes of one small input, {"a":1}, and of the result 2 (Amazon States Language, "Input and Output
--- Processing").
+-- What the data flow makes of one small input, {"a":1}, and of the result 2.
+-- Source: Amazon States Language, "Input and Output Processing".
 use Rattle.std.specs.Prelude.{◌≡◌, ℕ, List, [], ◌∷◌, false, Option, Some, None, Result, Ok, Err, pos, codes}
 use Rattle.unum_json.specs.declared.value.Json.{Json}
 use Rattle.unum_json.specs.declared.value.Json as json
@@ -80,10 +80,14 @@ failing (Err e) = error_name e
 -- The first error in the order of application wins: here each later application fails too.
 abbrev pub FirstErrorWins : Type 0
 FirstErrorWins =
-    (failing (prep (record plain { input = Some (at_key (codes "q")); parameters = Some (x_from (codes "q")) }) raw) ≡ Some (codes "Unum.PathFailure"))
+    (failing (prep (record plain { input = Some (at_key (codes "q")); parameters = Some (x_from (codes "q")) }) raw)
+    ≡ Some (codes "Unum.PathFailure"))
     × (failing (prep (record plain { parameters = Some (x_from (codes "q")) }) raw) ≡ Some (codes "States.ParameterPathFailure"))
-    × (failing (post (record plain { selector = Some (x_from (codes "q")); result = Some (Index 0 ∷ []); output = Some (at_key (codes "q")) }) raw two) ≡ Some (codes "States.ParameterPathFailure"))
-    × (failing (post (record plain { result = Some (Index 0 ∷ []); output = Some (at_key (codes "q")) }) raw two) ≡ Some (codes "States.ResultPathMatchFailure"))
+    × (failing
+    (post (record plain { selector = Some (x_from (codes "q")); result = Some (Index 0 ∷ []); output = Some (at_key (codes "q")) }) raw two)
+    ≡ Some (codes "States.ParameterPathFailure"))
+    × (failing (post (record plain { result = Some (Index 0 ∷ []); output = Some (at_key (codes "q")) }) raw two)
+    ≡ Some (codes "States.ResultPathMatchFailure"))
     × (failing (post (record plain { output = Some (at_key (codes "q")) }) raw two) ≡ Some (codes "Unum.PathFailure"))
 
 -- a value may have 200,000 nodes and depth 120, and no more

@@ -1,4 +1,5 @@
--- The five stages of the data flow round a state (Amazon States Language, "Input and Output Processing").
+-- The five stages of the data flow round a state.
+-- Source: Amazon States Language, "Input and Output Processing".
 use Rattle.std.specs.Prelude.{◌≡◌, Bool, true, false, not, ◌&&◌, IsTrue, Option, Some, None}
 use Rattle.asl_paths.specs.declared.path.Path.{Path}
 use Rattle.asl_paths.specs.declared.template.Template.{Template}

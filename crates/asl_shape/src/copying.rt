@@ -1,3 +1,5 @@
+//! Equal copies of shapes.
+
 ghost use Rattle.std.specs.Prelude.{◌≡◌, IfOk};
 
 use crate::shape::Shape;

@@ -1,3 +1,4 @@
+-- Definitions of the list of broken rules of validity.
 pub mod Levels
 pub mod Homes
 pub mod Rules

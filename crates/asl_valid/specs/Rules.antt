@@ -1,4 +1,6 @@
 -- The rules of one state.
+-- Source: Amazon States Language, "Structure of a State Machine", "States", "Transitions", "Choice State", "Parallel State",
+-- "Map State" and "Errors". The bounds are this project's own.
 use Rattle.std.specs.Prelude.{Bool, false, not, ◌&&◌, ◌||◌, ◌==◌, nat_lt, map, flat_map, length, List}
 use Rattle.std.specs.List.{list_any}
 use Rattle.std.specs.Str.{bytes_eq}

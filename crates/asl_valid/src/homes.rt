@@ -16,7 +16,9 @@ use unum_json::{NoMemory, Text};
 /// The first and the last block that a name stands in.
 #[derive(Clone, Copy)]
 pub struct Home {
+    /// The index of the first block, in the order of blocks.
     pub first: usize,
+    /// The index of the last block.
     pub last: usize,
 }
 

@@ -15,7 +15,9 @@ const DEPTH_LIMIT: u8 = 8;
 /// A block, and how much deeper blocks may nest in it.
 #[derive(Clone, Copy)]
 pub struct Level<'m> {
+    /// The block.
     pub block: &'m Block,
+    /// How many levels of blocks may stand in it.
     pub room: u8,
 }
 

@@ -1,3 +1,4 @@
+-- Lemmas on bundles: what their text says, and the first rule that it breaks.
 pub mod Acceptance
 pub mod Compiling
 pub mod Fitting

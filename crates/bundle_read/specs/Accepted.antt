@@ -42,7 +42,8 @@ abbrev pub plan_of : DraftPlan → Plan
 plan_of p = record { seed = p.seed; crash = p.crash; repeat = p.repeat; script = map mishap_of p.script; twins = p.twins }
 
 abbrev pub accepted_of : Draft → Accepted
-accepted_of d = record { machines = d.machines; functions = d.functions; sessions = map (session_of d.machines) d.sessions; plan = plan_of d.plan }
+accepted_of d =
+    record { machines = d.machines; functions = d.functions; sessions = map (session_of d.machines) d.sessions; plan = plan_of d.plan }
 
 -- how the world of a bundle begins
 abbrev pub opening_of : Accepted → Opening

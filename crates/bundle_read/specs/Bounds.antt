@@ -173,7 +173,8 @@ broken_numbers functions plan = flat_map wild_function functions ++ wild_plan pl
 
 abbrev pub broken_parts : Functions → Machines → List DraftSession → DraftPlan → List Refusal
 broken_parts functions machines sessions plan =
-    broken_machines machines ++ (broken_names functions machines sessions ++ (broken_sizes functions sessions ++ broken_numbers functions plan))
+    broken_machines machines ++ (broken_names functions machines sessions
+    ++ (broken_sizes functions sessions ++ broken_numbers functions plan))
 
 -- all that a bundle breaks once its text is read, in the order in which it is looked for
 abbrev pub broken_rules : Draft → List Refusal

@@ -72,4 +72,5 @@ calm_plan n = record { seed = n; crash = 0; repeat = 0; script = []; twins = [] 
 
 -- the generated bundle of n sessions
 abbrev pub generated : (n : ℕ) → Accepted
-generated n = record { machines = (codes "gen", gen) ∷ []; functions = functions; sessions = map session (range_with_len 0 n); plan = calm_plan n }
+generated n =
+    record { machines = (codes "gen", gen) ∷ []; functions = functions; sessions = map session (range_with_len 0 n); plan = calm_plan n }

@@ -1,3 +1,4 @@
+-- Definitions of bundles: what their text says, and the first rule that it breaks.
 pub mod Accepted
 pub mod Bounds
 pub mod Called

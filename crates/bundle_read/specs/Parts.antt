@@ -18,7 +18,8 @@ Fields = List (Row Part)
 abbrev pub function_fields : FunctionKind → Fields
 function_fields Const = may (codes "kind") (part.Field Unread) ∷ must (codes "value") (part.Field Data) ∷ []
 function_fields Flaky = may (codes "kind") (part.Field Unread) ∷ must (codes "every") (part.Field Whole) ∷ []
-function_fields Fail = may (codes "kind") (part.Field Unread) ∷ must (codes "cause") (part.Field Text) ∷ must (codes "error") (part.Field Text) ∷ []
+function_fields Fail = may (codes "kind") (part.Field Unread) ∷ must (codes "cause") (part.Field Text)
+    ∷ must (codes "error") (part.Field Text) ∷ []
 function_fields _ = may (codes "kind") (part.Field Unread) ∷ []
 
 abbrev pub fields : kind.Object → Fields
@@ -40,7 +41,8 @@ item_part _ = None
 
 -- the kinds of functions, by their names
 abbrev pub kinds : List (Key × FunctionKind)
-kinds = (codes "echo", Echo) ∷ (codes "const", Const) ∷ (codes "sum", Sum) ∷ (codes "ticket", Ticket) ∷ (codes "flaky", Flaky) ∷ (codes "fail", Fail) ∷ []
+kinds = (codes "echo", Echo) ∷ (codes "const", Const) ∷ (codes "sum", Sum) ∷ (codes "ticket", Ticket) ∷ (codes "flaky", Flaky)
+    ∷ (codes "fail", Fail) ∷ []
 
 -- a row of the code
 abbrev pub named_kind : Bor (List ℕ) × FunctionKind → Key × FunctionKind

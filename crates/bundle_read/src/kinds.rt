@@ -5,20 +5,30 @@ use asl_read::How;
 /// The kind of a function.
 #[derive(Clone, Copy)]
 pub enum FunctionKind {
+    /// It answers its input.
     Echo,
+    /// It answers a value of its own.
     Const,
+    /// It answers the sum of an array of whole numbers.
     Sum,
+    /// It answers the number of the attempt that calls it.
     Ticket,
+    /// It fails at some attempts, and answers its input at the others.
     Flaky,
+    /// It fails.
     Fail,
 }
 
 /// A kind of object, which has a table of fields.
 #[derive(Clone, Copy)]
 pub enum Object {
+    /// The whole bundle.
     Bundle,
+    /// A function of this kind.
     Function(FunctionKind),
+    /// The plan of mishaps.
     Plan,
+    /// A session.
     Session,
 }
 

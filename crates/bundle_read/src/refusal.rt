@@ -1,3 +1,5 @@
+//! The rules of bundles, and why bytes are no bundle.
+
 use asl_model::VRule;
 use asl_read::LRule;
 use ir_text::IRule;
@@ -32,8 +34,11 @@ pub enum RuleCode {
 /// A rule of validity that a machine breaks, with the state that is named for it.
 #[derive(Debug, Drop)]
 pub struct BrokenPair {
+    /// The rule.
     pub rule: VRule,
+    /// The name of the machine.
     pub machine: Text,
+    /// The name of the state.
     pub state: Text,
 }
 
@@ -50,6 +55,7 @@ pub enum Refusal {
 /// Why bytes gave no bundle.
 #[derive(Debug, Drop)]
 pub enum BundleError {
+    /// They break rules.
     Refused(Refusal),
     /// Memory ran out.
     NoMemory,

@@ -1,3 +1,4 @@
+-- Lemmas on the plain interpreter: the central and the sequential run as code.
 pub mod Picks
 pub mod Counts
 pub mod BeginLaw

@@ -1,9 +1,10 @@
 -- What the kinds of states do, where an error of their own data flow is left to whoever calls.
+-- Source: Amazon States Language, "State Types".
 use Rattle.std.specs.Prelude.{ℕ, List, ◌++◌, map, Option, Some, None, Result, Ok, Err, false}
 use Rattle.choice_rules.specs.Evaluating.{choose_from}
 use Rattle.asl_model.specs.Data.{Text, Json, Fault, Done, failure, or_path_failure, Shape, Rule, Path, Template, prepared, handed_on, output, chosen, no_choice, and_then, parallel_inputs, map_inputs}
 use Rattle.asl_model.specs.declared.machine.TopRule.{TopRule}
-use Rattle.asl_model.specs.Machine.{Care}
+use Rattle.asl_model.specs.Machine.{Care, State, Parallel, Map}
 use Rattle.asl_model.specs.Head.{result_or, leaves, picked, caught}
 use Rattle.asl_model.specs.Step.{Onward, Goes, Ends, Begun, On, Calls, Fans}
 
@@ -35,7 +36,9 @@ next_state rules default x =
 
 abbrev pub chooses : Shape → List TopRule → (default : Option Text) → Json → Result Onward Text
 chooses shape rules default raw =
-    and_then (prepared shape raw) (λ x. and_then (next_state rules default x) (λ next. and_then (output shape x) (λ v. Ok (Goes next v None))))
+    and_then (prepared shape raw) (λ x.
+    and_then (next_state rules default x) (λ next.
+    and_then (output shape x) (λ v. Ok (Goes next v None))))
 
 -- where a Choice leads with its prepared data
 abbrev pub chooses_with : Shape → List TopRule → (default : Option Text) → (prepared : Json) → Result Onward Text
@@ -46,6 +49,12 @@ succeeds shape raw = and_then (prepared shape raw) (λ x. and_then (output shape
 
 abbrev pub calls : Shape → (resource : Text) → Json → Result Begun Text
 calls shape resource raw = and_then (prepared shape raw) (λ x. Ok (Calls resource x))
+
+-- the state is a Parallel or a Map
+abbrev pub IsFan : State → Type 0
+IsFan (Parallel shape bs after care) = Unit {0}
+IsFan (Map shape items selector b after care limit) = Unit {0}
+IsFan _ = ⊥
 
 abbrev pub parallel_fans : Shape → ℕ → Json → Result Begun Text
 parallel_fans shape n raw = and_then (prepared shape raw) (λ x. and_then (parallel_inputs n x) (λ inputs. Ok (Fans inputs)))

@@ -1,3 +1,4 @@
+-- Definitions of the plain interpreter: the central and the sequential run as code.
 pub mod Views
 pub mod Kinds
 pub mod Finishing

@@ -71,12 +71,15 @@ walk_from A b left s name hop raw again = c.walk standard A b (runners standard 
 abbrev pub turn_in : Answers → Block → Text → Option State → Scope → ℕ → Json → Option Used → c.Turn
 turn_in A b name None s hop raw again = record { visits = []; onward = c.Then_on (Ends (failure no_state_error name)) }
 turn_in A b name (Some st) s hop raw again =
-    c.turn standard A b name st (λ n. map (c.scope standard A) (branches_of st n)) (at_hop s hop) raw (c.used_by standard st again) (standard.begin name st raw)
+    c.turn standard A b name st (λ n. map (c.scope standard A) (branches_of st n)) (at_hop s hop) raw
+    (c.used_by standard st again) (standard.begin name st raw)
 
 -- what a state adds that was entered
 abbrev pub turn_of : Block → Answers → Entry → c.Turn
 turn_of b A e =
-    c.turn standard A b e.name.now (state_tree e.state.now) (λ n. map (c.scope standard A) (branches_of (state_tree e.state.now) n)) e.place e.raw e.used (standard.begin e.name.now (state_tree e.state.now) e.raw)
+    c.turn standard A b e.name.now (state_tree e.state.now)
+    (λ n. map (c.scope standard A) (branches_of (state_tree e.state.now) n)) e.place e.raw e.used
+    (standard.begin e.name.now (state_tree e.state.now) e.raw)
 
 -- the same of a Task with its effective input
 abbrev pub called_of : Block → Answers → Entry → (resource : Text) → Json → c.Turn
@@ -84,12 +87,14 @@ called_of b A e resource x = c.called standard b e.name.now (state_tree e.state.
 
 -- the runs of the branches of a fan
 abbrev pub branch_runs : Answers → Entry → List Json → List c.Run
-branch_runs A e inputs = c.each e.place (length inputs) 0 (map (c.scope standard A) (branches_of (state_tree e.state.now) (length inputs))) inputs
+branch_runs A e inputs =
+    c.each e.place (length inputs) 0 (map (c.scope standard A) (branches_of (state_tree e.state.now) (length inputs))) inputs
 
 -- the same of a fan with its inputs
 abbrev pub joined_of : Block → Answers → Entry → List Json → c.Turn
 joined_of b A e inputs =
-    c.joined standard b e.name.now (state_tree e.state.now) e.place e.raw e.used (c.visits_of (branch_runs A e inputs)) (c.gather (branch_runs A e inputs))
+    c.joined standard b e.name.now (state_tree e.state.now) e.place e.raw e.used (c.visits_of (branch_runs A e inputs))
+    (c.gather (branch_runs A e inputs))
 
 -- the state of that name was entered so
 pub record IsEntry (b : Block) (s : Scope) (name : Text) (hop : ℕ) (raw : Json) (again : Option Used) (e : Entry) : Type 0 where

@@ -8,7 +8,7 @@ ghost use Rattle.asl_model.specs.Head.{result_or};
 ghost use Rattle.asl_model.specs.Step.{Onward as OnwardSeen, Begun as BegunSeen, standard};
 ghost use Rattle.asl_model.specs.Tree.{care_of, state_tree};
 ghost use Rattle.unum_ir.specs.Given.{Gives};
-ghost use Rattle.central_model.specs.Kinds.{on_or_failed, begun_or_caught, passes, next_state, chooses_with, chooses, succeeds, calls, parallel_fans, map_fans};
+ghost use Rattle.central_model.specs.Kinds.{IsFan, on_or_failed, begun_or_caught, passes, next_state, chooses_with, chooses, succeeds, calls, parallel_fans, map_fans};
 ghost use Rattle.central_model.specs.Views.{onward_of, begun_of};
 
 use crate::care::catch;
@@ -187,6 +187,41 @@ fn fan_map<'m>(
     Ok(Begun::Fans(inputs?))
 }
 
+/// What the fan of this name does first with its raw data.
+#[tactic(auto, unfolding(asl_model::specs::Step::standard))]
+fn begin_fan<'m>(
+    alloc: Global,
+    name: &'m Text,
+    state: &'m State,
+    raw: &Json,
+) -> Result<Begun<'m>, NoMemory>
+    requires { IsFan (state_tree state.now) }
+    ensures { IfOk result (λ b. begun_of b ≡ standard.begin name.now (state_tree state.now) raw.now) }
+{
+    match state {
+        State::Parallel {
+            shape,
+            branches,
+            care,
+            ..
+        } => {
+            let made = fan_parallel(alloc, shape, branches.len(), raw);
+            or_catch(alloc, name, raw, care, made)
+        }
+        State::Map {
+            shape,
+            items,
+            selector,
+            care,
+            ..
+        } => {
+            let made = fan_map(alloc, shape.shape(), items, selector, raw);
+            or_catch(alloc, name, raw, care, made)
+        }
+        _ => unreachable!(),
+    }
+}
+
 /// What the state of this name does first with its raw data.
 ///
 /// The only error is want of memory.
@@ -229,24 +264,6 @@ pub fn begin<'m>(
             let ended = failure(alloc, error.as_str(), cause.as_str())?;
             Ok(Begun::On(Onward::Ends(ended)))
         }
-        State::Parallel {
-            shape,
-            branches,
-            care,
-            ..
-        } => {
-            let made = fan_parallel(alloc, shape, branches.len(), raw);
-            or_catch(alloc, name, raw, care, made)
-        }
-        State::Map {
-            shape,
-            items,
-            selector,
-            care,
-            ..
-        } => {
-            let made = fan_map(alloc, shape.shape(), items, selector, raw);
-            or_catch(alloc, name, raw, care, made)
-        }
+        fan => begin_fan(alloc, name, fan, raw),
     }
 }

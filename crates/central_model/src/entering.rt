@@ -22,10 +22,15 @@ use unum_json::{Items, Json, NoMemory, Text};
 /// A state that a scope entered, with its raw data and its list used.
 #[derive(Drop)]
 pub struct Entry<'m> {
+    /// The name of the state.
     pub name: &'m Text,
+    /// The state.
     pub state: &'m State,
+    /// Where it is entered.
     pub place: Place,
+    /// Its raw data.
     pub raw: Json,
+    /// How often each of its retriers was taken so far.
     pub used: Used,
 }
 

@@ -22,8 +22,11 @@ use unum_json::{Fault, Json, NoMemory, Outcome, Text, copy, copy_outcome};
 /// What of a state counts once it has an answer.
 #[derive(Drop)]
 pub struct Answered<'m> {
+    /// Its data flow.
     pub shape: &'m Shape,
+    /// What follows it.
     pub after: &'m After,
+    /// What it does about errors.
     pub care: &'m Care,
     /// Whether a function answers.
     pub by_function: bool,

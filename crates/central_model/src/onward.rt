@@ -42,7 +42,9 @@ pub enum Begun<'m> {
 /// How a state that a scope entered goes on: as the state says, or the scope waits at these places.
 #[derive(Drop)]
 pub enum Then<'m> {
+    /// As the state says.
     On(Onward<'m>),
+    /// The scope waits at these places.
     Stays(Items<Place>),
 }
 

@@ -6,6 +6,7 @@ use unum_json::{Items, Json, Outcome, Text};
 /// A visit of a run.
 #[derive(Drop)]
 pub struct Visit {
+    /// Its place, and what is visited there.
     pub name: Name,
     /// The resource of a Task. Nothing else has one.
     pub resource: Option<Text>,
@@ -27,6 +28,8 @@ pub enum End {
 /// A run: its visits, in the order of their names, and how it ends.
 #[derive(Drop)]
 pub struct Run {
+    /// The visits, in the order of their names.
     pub visits: Items<Visit>,
+    /// How it ends.
     pub end: End,
 }

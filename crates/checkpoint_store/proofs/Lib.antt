@@ -1,3 +1,4 @@
+-- Lemmas on objects by their names.
 mod Bits
 mod Sames
 mod Stored

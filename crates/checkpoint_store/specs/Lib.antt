@@ -1,3 +1,4 @@
+-- Definitions of objects by their names.
 pub mod Answers
 pub mod Entries
 pub mod Keys

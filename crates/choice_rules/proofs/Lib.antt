@@ -1,3 +1,4 @@
+-- Lemmas on choice rules and patterns.
 pub mod Characters
 pub mod Turns
 pub mod Searches

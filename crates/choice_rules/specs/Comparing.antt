@@ -1,4 +1,5 @@
--- How two values are compared (Amazon States Language, "Choice State").
+-- How two values are compared.
+-- Source: Amazon States Language, "Choice State".
 use Rattle.std.specs.Prelude.{Bool, false}
 use Rattle.std.specs.Bool.{beq}
 use Rattle.std.specs.Cmp.Lexicographic.{slice_cmp}

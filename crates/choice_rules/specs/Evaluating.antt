@@ -1,4 +1,5 @@
--- What a rule answers for a value (Amazon States Language, "Choice State"). A path that finds nothing is a failure.
+-- What a rule answers for a value. A path that finds nothing is a failure.
+-- Source: Amazon States Language, "Choice State".
 use Rattle.std.specs.Prelude.{ℕ, ◌+◌, Bool, true, false, not, List, [], ◌∷◌, Option, Some, None, Result, Ok, Err}
 use Rattle.std.specs.Bool.{beq}
 use Rattle.std.specs.Str.{chars}

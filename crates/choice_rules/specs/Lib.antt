@@ -1,3 +1,4 @@
+-- Definitions of choice rules and patterns.
 pub mod Compared
 pub mod Comparing
 pub mod Evaluating

@@ -1,4 +1,5 @@
--- The texts that a pattern matches (Amazon States Language, "Choice State", `StringMatches`), as lists of characters.
+-- The texts that a pattern matches, as lists of characters.
+-- Source: Amazon States Language, "Choice State", `StringMatches`.
 use Rattle.std.specs.Prelude.{◌≡◌, ℕ, ◌==◌, Bool, true, false, ◌&&◌, ◌||◌, List, [], ◌∷◌, ◌++◌}
 use Rattle.choice_rules.specs.declared.pattern.Piece.{Piece}
 use Rattle.choice_rules.specs.declared.pattern.Piece.TheVariants.{Literal, Star}

@@ -1,4 +1,5 @@
--- The texts of patterns (Amazon States Language, "Choice State"): `*` is a star, and a backslash makes the next character literal.
+-- The texts of patterns: `*` is a star, and a backslash makes the next character literal.
+-- Source: Amazon States Language, "Choice State", `StringMatches`.
 use Rattle.std.specs.Prelude.{◌≡◌, ◌≢◌, ℕ, ◌==◌, ◌||◌, ◌⊎◌, if◌then◌else◌, Bool, true, false, List, [], ◌∷◌, ◌++◌, flat_map, codes, Option, Some, None}
 use Rattle.std.specs.Option.{option_map}
 use Rattle.std.specs.Str.{chars}
@@ -13,7 +14,8 @@ SpellsPiece (Literal c) cs = ((c ≢ 42) × (c ≢ 92) × (cs ≡ c ∷ [])) ⊎
 
 abbrev pub SpellsPieces : List Piece → List ℕ → Type 0
 SpellsPieces [] cs = cs ≡ []
-SpellsPieces (piece ∷ pieces) cs = (first : List ℕ) × (rest : List ℕ) × (cs ≡ first ++ rest) × SpellsPiece piece first × SpellsPieces pieces rest
+SpellsPieces (piece ∷ pieces) cs = (first : List ℕ) × (rest : List ℕ) × (cs ≡ first ++ rest) × SpellsPiece piece first
+    × SpellsPieces pieces rest
 
 -- the bytes of a text whose characters spell the pieces
 abbrev pub Spells : List Piece → List ℕ → Type 0
@@ -27,7 +29,9 @@ abbrev pub pieces_of : Bool → List ℕ → Option (List Piece)
 pieces_of false [] = Some []
 pieces_of true [] = None
 pieces_of true (c ∷ cs) = with_piece (Literal c) (pieces_of false cs)
-pieces_of false (c ∷ cs) = if c == 42 then with_piece Star (pieces_of false cs) else (if c == 92 then pieces_of true cs else with_piece (Literal c) (pieces_of false cs))
+pieces_of false (c ∷ cs) =
+    if c == 42 then with_piece Star (pieces_of false cs)
+    else (if c == 92 then pieces_of true cs else with_piece (Literal c) (pieces_of false cs))
 
 abbrev pub pattern_of : List ℕ → Option (List Piece)
 pattern_of text = pieces_of false (chars text)

@@ -1,3 +1,5 @@
+//! The first rule of a list that matches a value.
+
 ghost use Rattle.std.specs.Prelude.{◌≡◌, ◌<◌, ◌≤◌, ◌^◌, length, map};
 ghost use Rattle.choice_rules.specs.Evaluating.{choose as choice, OnChosen};
 ghost use Rattle.choice_rules.specs.declared.rule.Rule.{Rule};

@@ -1,3 +1,5 @@
+//! Comparisons of what a variable finds with an operand.
+
 ghost use Rattle.std.specs.Prelude.{◌≡◌};
 ghost use Rattle.choice_rules.specs.Compared.{is_of_kind as of_kind, is_sound as sound};
 ghost use Rattle.unum_json.specs.Seen.{shape_of};

@@ -1,3 +1,5 @@
+//! Equal copies of rules.
+
 ghost use Rattle.std.specs.Prelude.{◌≡◌, IfOk};
 
 use crate::comparison::{Comparison, Operand};

@@ -1,3 +1,5 @@
+//! What a rule answers for a value.
+
 ghost use Rattle.std.specs.Prelude.{◌≡◌, map, option_copied};
 ghost use Rattle.unum_json.specs.Seen.{shape_of};
 ghost use Rattle.choice_rules.specs.Evaluating.{is_null as null_at, is_numeric as numeric_at, is_string as string_at, is_boolean as boolean_at, is_text_of, operand_in, compared, asked, tested, all_hold, some_holds, matches as matched, matches_in};

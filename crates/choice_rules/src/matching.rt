@@ -1,3 +1,5 @@
+//! Whether a text matches a pattern.
+
 ghost use Rattle.std.specs.Prelude.{◌≡◌, ◌↔◌, ◌∷◌, ◌<◌, [], IsTrue, MatchOption, length};
 ghost use Rattle.std.specs.Str.{chars};
 ghost use Rattle.choice_rules.specs.Matching.{Matches, is_match};

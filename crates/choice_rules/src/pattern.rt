@@ -1,3 +1,5 @@
+//! Patterns of texts.
+
 ghost use Rattle.std.specs.Prelude.{◌≡◌, []};
 ghost use Rattle.choice_rules.specs.PatternTexts.{IsPattern};
 

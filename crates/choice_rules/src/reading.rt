@@ -1,3 +1,5 @@
+//! How the text of a pattern is read, and its canonical text.
+
 ghost use Rattle.std.specs.Prelude.{◌≡◌, ◌++◌, List, Err, Some, IfOk, OnOk, string_bytes};
 ghost use Rattle.choice_rules.specs.declared.pattern.Piece.{Piece};
 ghost use Rattle.choice_rules.specs.Patterns.{Spells, pattern_of, piece_text, pattern_text, Reads, ReadsOne};

@@ -1,3 +1,5 @@
+//! The rules that choose by a value.
+
 use crate::comparison::Comparison;
 use crate::pattern::Pattern;
 use crate::several::NonEmpty;
@@ -24,6 +26,8 @@ pub enum Op {
 }
 
 /// A rule, by which a state chooses.
+///
+/// Source: Amazon States Language, "Choice State".
 #[derive(Drop)]
 pub enum Rule {
     /// What the variable finds is as the operator asks.

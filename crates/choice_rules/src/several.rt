@@ -1,3 +1,5 @@
+//! Lists of one or more.
+
 ghost use Rattle.std.specs.Prelude.{◌≡◌, ◌<◌, length, vec_len};
 
 use std::marker::Model;

@@ -1,3 +1,4 @@
+-- Lemmas on the compiler: the numbers and the flat form of a machine.
 pub mod Shown
 pub mod Lists
 pub mod Place

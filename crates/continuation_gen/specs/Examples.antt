@@ -28,7 +28,8 @@ one_pass name = block name (and_state name (Pass whole None at_end) no_state)
 
 -- a Parallel of two Passes
 abbrev pub m6 : Block
-m6 = block (codes "P") (and_state (codes "P") (Parallel whole (and_block (one_pass (codes "X")) (and_block (one_pass (codes "Y")) no_block)) at_end bare) no_state)
+m6 = block (codes "P") (and_state (codes "P")
+    (Parallel whole (and_block (one_pass (codes "X")) (and_block (one_pass (codes "Y")) no_block)) at_end bare) no_state)
 
 abbrev pub OfTwoBranches : Type 0
 OfTwoBranches = flat_form m6 ≡ record {
@@ -50,7 +51,8 @@ gen = block (codes "Price")
     (and_state (codes "Ship")
     (Parallel whole
     (and_block (one_task (codes "Pay") (codes "pay"))
-    (and_block (block (codes "Each") (and_state (codes "Each") (Map whole (Field (codes "items") ∷ []) None (one_task (codes "Pack") (codes "keep")) at_end bare 0) no_state)) no_block))
+    (and_block (block (codes "Each") (and_state (codes "Each")
+    (Map whole (Field (codes "items") ∷ []) None (one_task (codes "Pack") (codes "keep")) at_end bare 0) no_state)) no_block))
     at_end bare)
     no_state))
 
@@ -62,8 +64,10 @@ OfBlocksThreeDeep = flat_form gen ≡ record {
       ∷ record { name = codes "Each"; scope = 2; op = MapOp whole 7 None no_care 3 (Field (codes "items") ∷ []) None 0 }
       ∷ record { name = codes "Pack"; scope = 3; op = TaskOp whole 8 None no_care }
       ∷ [];
-  funcs = EnterFunc 0 ∷ EnterFunc 1 ∷ EnterFunc 2 ∷ EnterFunc 3 ∷ TaskFunc 0 (codes "keep") ∷ JoinFunc 1 ∷ TaskFunc 2 (codes "pay") ∷ JoinFunc 3 ∷ TaskFunc 4 (codes "keep") ∷ [];
-  scopes = record { parent = None; start = 0 } ∷ record { parent = Some 5; start = 2 } ∷ record { parent = Some 5; start = 3 } ∷ record { parent = Some 7; start = 4 } ∷ [];
+  funcs = EnterFunc 0 ∷ EnterFunc 1 ∷ EnterFunc 2 ∷ EnterFunc 3 ∷ TaskFunc 0 (codes "keep") ∷ JoinFunc 1
+      ∷ TaskFunc 2 (codes "pay") ∷ JoinFunc 3 ∷ TaskFunc 4 (codes "keep") ∷ [];
+  scopes = record { parent = None; start = 0 } ∷ record { parent = Some 5; start = 2 } ∷ record { parent = Some 5; start = 3 }
+      ∷ record { parent = Some 7; start = 4 } ∷ [];
 }
 
 abbrev pub tried : Care
@@ -75,7 +79,8 @@ tried = record {
 -- a Map with a limit, a retrier and a catcher
 abbrev pub cared : Block
 cared = block (codes "M")
-    (and_state (codes "H") (Pass whole None at_end) (and_state (codes "M") (Map whole [] None (one_task (codes "T") (codes "f")) at_end tried 3) no_state))
+    (and_state (codes "H") (Pass whole None at_end)
+    (and_state (codes "M") (Map whole [] None (one_task (codes "T") (codes "f")) at_end tried 3) no_state))
 
 abbrev pub OfCareAndLimit : Type 0
 OfCareAndLimit = flat_form cared ≡ record {

@@ -70,8 +70,10 @@ SameChildren root _ _ = ⊥
 
 -- the same kind of stop, function, hop, raw data, used list and inputs
 abbrev pub SameStop : Block → Block → model.Stop → Stop → Type 0
-SameStop root b (model.Call name hop raw used) (CallAt f h r u) = (resource : Text) × (function_at root f ≡ Some (b, Called name resource)) × (h ≡ hop) × (r ≡ raw) × (u ≡ used)
-SameStop root b (model.Fan name hop raw used cs) (FanAt f h r u ks) = (function_at root f ≡ Some (b, Joined name)) × (h ≡ hop) × (r ≡ raw) × (u ≡ used) × SameChildren root cs ks
+SameStop root b (model.Call name hop raw used) (CallAt f h r u) =
+    (resource : Text) × (function_at root f ≡ Some (b, Called name resource)) × (h ≡ hop) × (r ≡ raw) × (u ≡ used)
+SameStop root b (model.Fan name hop raw used cs) (FanAt f h r u ks) =
+    (function_at root f ≡ Some (b, Joined name)) × (h ≡ hop) × (r ≡ raw) × (u ≡ used) × SameChildren root cs ks
 SameStop root b (model.Over o) (EndsWith p) = p ≡ o
 SameStop root b _ _ = ⊥
 
@@ -79,13 +81,15 @@ SameStop root b _ _ = ⊥
 abbrev pub WalksAlike : Block → Type 0
 WalksAlike root =
     (label : ℕ) (b : Block) (name : Text) → IsNodeOf root label b name →
-    (hop : ℕ) (v : Json) (again : Option Used) → SameStop root b (stretch standard b name hop v again) (flat (flat_form root) label hop v again)
+    (hop : ℕ) (v : Json) (again : Option Used) →
+    SameStop root b (stretch standard b name hop v again) (flat (flat_form root) label hop v again)
 
 -- after each function it stops where the machine does after what the function's number stands for
 abbrev pub ResumesAlike : Block → Type 0
 ResumesAlike root =
     (f : ℕ) (b : Block) (visited : Visited) → function_at root f ≡ Some (b, visited) →
-    (hop : ℕ) (raw : Json) (used : Used) (o : Outcome) → SameStop root b (after standard b visited hop raw used o) (flat_after (flat_form root) f hop raw used o)
+    (hop : ℕ) (raw : Json) (used : Used) (o : Outcome) →
+    SameStop root b (after standard b visited hop raw used o) (flat_after (flat_form root) f hop raw used o)
 
 -- Every walk on the flat form of a valid machine is the machine's own.
 abbrev pub FlatIsStretch : Type 0
@@ -104,7 +108,8 @@ abbrev pub GivesAlike : Block → Type 0
 GivesAlike root =
     (f : ℕ) (b : Block) →
     ((name resource : Text) → function_at root f ≡ Some (b, Called name resource) →
-    (resource_of (slice_get (flat_form root).funcs f) ≡ Some resource) × ((raw : Json) → effective (flat_form root) f raw ≡ option_map input_in_call (call_at name (state_of b name) raw)))
+    (resource_of (slice_get (flat_form root).funcs f) ≡ Some resource)
+    × ((raw : Json) → effective (flat_form root) f raw ≡ option_map input_in_call (call_at name (state_of b name) raw)))
     × ((name : Text) → function_at root f ≡ Some (b, Joined name) →
     ((index : ℕ) (raw : Json) → input_of (flat_form root) f index raw ≡ input_in name (state_of b name) raw index)
     × (width (flat_form root) f ≡ width_at (state_of b name))
@@ -139,7 +144,8 @@ IrMaps = (root : Block) → IsValid root → HasRisingNames root → MapsToSites
 
 -- the site of a number has the block of what it stands for, and visits what that visits
 abbrev pub HasItsSites : Block → Type 0
-HasItsSites root = (f : ℕ) (b : Block) (visited : Visited) → function_at root f ≡ Some (b, visited) → ((flat_site root f).block ≡ b) × ((flat_site root f).spot ≡ spot_of visited)
+HasItsSites root = (f : ℕ) (b : Block) (visited : Visited) → function_at root f ≡ Some (b, visited) →
+    ((flat_site root f).block ≡ b) × ((flat_site root f).spot ≡ spot_of visited)
 
 -- ---------------------------------------------------------------- of one machine
 
@@ -165,8 +171,10 @@ AreValid o = (s : ℕ) (x : Session) → slice_get o.sessions s ≡ Some x → I
 -- A world that runs the flat forms of its machines is sound.
 abbrev pub EveryIrRunIsSound : Type 0
 EveryIrRunIsSound =
-    (o : Opening) → AreValid o → (events : List Event) (w : Numbered) → coded.run flags (ir_codes o) first_number o events ≡ Some w → IsSoundWorld o (ir_codes o) (flat_sites o) events w
+    (o : Opening) → AreValid o → (events : List Event) (w : Numbered) →
+    coded.run flags (ir_codes o) first_number o events ≡ Some w → IsSoundWorld o (ir_codes o) (flat_sites o) events w
 
 -- And what may happen in turn in the world of machines may happen there.
 abbrev pub EveryRunIsOfIr : Type 0
-EveryRunIsOfIr = (o : Opening) → AreValid o → (events : List Event) (v : World) → run o events ≡ Some v → (w : Numbered) × (coded.run flags (ir_codes o) first_number o events ≡ Some w)
+EveryRunIsOfIr = (o : Opening) → AreValid o → (events : List Event) (v : World) → run o events ≡ Some v →
+    (w : Numbered) × (coded.run flags (ir_codes o) first_number o events ≡ Some w)

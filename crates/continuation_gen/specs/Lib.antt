@@ -1,3 +1,4 @@
+-- Definitions of the compiler: the numbers and the flat form of a machine.
 pub mod Tables
 pub mod Numbering
 pub mod Filling

@@ -127,7 +127,8 @@ op_of g func at (Choice shape rules default) = ChoiceOp shape (map (number_rule 
 op_of g func at (Succeed shape) = SucceedOp shape
 op_of g func at (Fail error cause) = FailOp error cause
 op_of g func at (Parallel shape bs after care) = ParallelOp shape func (option_map g after.next) (number_care g care) (scope_numbers at bs)
-op_of g func at (Map shape items selector b after care limit) = MapOp shape func (option_map g after.next) (number_care g care) at.scope items selector limit
+op_of g func at (Map shape items selector b after care limit) =
+    MapOp shape func (option_map g after.next) (number_care g care) at.scope items selector limit
 
 abbrev pub nodes_from : (Text → ℕ) → (scope func : ℕ) → At → States → List Node
 nodes_from g scope func at no_state = []

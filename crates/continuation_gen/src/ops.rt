@@ -4,7 +4,7 @@ ghost use Rattle.std.specs.Prelude.{◌≡◌, ◌<◌, ◌^◌, ◌+◌, List, 
 ghost use Rattle.asl_model.specs.Machine as m;
 ghost use Rattle.asl_model.specs.Tree.{block_tree, blocks_from, state_tree, care_of, catcher_of};
 ghost use Rattle.continuation_gen.specs.Numbering as n;
-ghost use Rattle.continuation_gen.specs.Filling.{number_in, inner_at};
+ghost use Rattle.continuation_gen.specs.Filling.{IsFan, number_in, inner_at};
 
 use crate::counting::scopes_in;
 use crate::placed::Spot;
@@ -230,6 +230,39 @@ fn map_op(
     })
 }
 
+/// A fan by its numbers.
+fn fan_of(alloc: Global, spot: &Spot<'_>, state: &State) -> Result<Op, NoMemory>
+    requires fan { IsFan (state_tree state.now) }
+    requires fits { spot.now.scope + (n.size_under (state_tree state.now)).scope < 2 ^ 32 }
+    ensures { IfOk result (λ op. op ≡ n.op_of (number_in spot.now) spot.now.func (inner_at spot.now.scope) (state_tree state.now)) }
+{
+    match state {
+        State::Parallel {
+            shape,
+            branches,
+            after,
+            care,
+        } => parallel(alloc, spot, shape, branches, after, care),
+        State::Map {
+            shape,
+            items,
+            selector,
+            after,
+            care,
+            limit,
+            ..
+        } => {
+            let iteration = Iteration {
+                items,
+                selector,
+                limit: *limit,
+            };
+            map_op(alloc, spot, shape, &iteration, after, care)
+        }
+        _ => unreachable!(),
+    }
+}
+
 /// A state by its numbers.
 fn op_of(alloc: Global, spot: &Spot<'_>, state: &State) -> Result<Op, NoMemory>
     requires { spot.now.scope + (n.size_under (state_tree state.now)).scope < 2 ^ 32 }
@@ -256,28 +289,7 @@ fn op_of(alloc: Global, spot: &Spot<'_>, state: &State) -> Result<Op, NoMemory>
             care,
             ..
         } => task(alloc, spot, shape, after, care),
-        State::Parallel {
-            shape,
-            branches,
-            after,
-            care,
-        } => parallel(alloc, spot, shape, branches, after, care),
-        State::Map {
-            shape,
-            items,
-            selector,
-            after,
-            care,
-            limit,
-            ..
-        } => {
-            let iteration = Iteration {
-                items,
-                selector,
-                limit: *limit,
-            };
-            map_op(alloc, spot, shape, &iteration, after, care)
-        }
+        fan => fan_of(alloc, spot, fan),
     }
 }
 

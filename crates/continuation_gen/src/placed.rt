@@ -13,8 +13,11 @@ use unum_json::Text;
 /// A block with its scope, its first node and the first function of its states, and the Join of the fan that holds it.
 #[derive(Clone, Copy)]
 pub struct Placed<'m> {
+    /// Its scope, its first node, and the first function of its states.
     pub at: At,
+    /// The Join of the fan that holds it. The root has none.
     pub parent: Option<u32>,
+    /// The block.
     pub block: &'m Block,
     ghost small: { IsSmall (plus at (size (block_tree block.now))) },
 }

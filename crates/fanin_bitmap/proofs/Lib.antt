@@ -1,1 +1,2 @@
+-- Lemmas on the bitmap of a fan.
 mod Flagged

@@ -1,1 +1,2 @@
+-- Definitions of the bitmap of a fan.
 pub mod Words

@@ -1,1 +1,2 @@
+-- Lemmas on the built-in functions and their table.
 pub mod Names

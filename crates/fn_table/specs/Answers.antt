@@ -11,6 +11,7 @@ use Rattle.fn_table.specs.declared.kind.FnKind.{FnKind}
 use Rattle.fn_table.specs.declared.kind.FnKind.TheVariants.{Echo, Const, Sum, Ticket, Flaky, Fail}
 
 -- the failure of a function that broke
+-- Source: Amazon States Language, "Errors", for the name of the error.
 abbrev pub broken_with : List ℕ → Outcome
 broken_with cause = Failed (record { error = codes "States.TaskFailed"; cause = cause })
 

@@ -1,1 +1,2 @@
+-- Definitions of the built-in functions and their table.
 pub mod Answers

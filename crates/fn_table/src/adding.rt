@@ -1,3 +1,5 @@
+//! The sum of an array.
+
 ghost use Rattle.std.specs.Prelude.{◌≡◌, List, ◌∷◌};
 ghost use Rattle.std.specs.Option.{option_and_then};
 ghost use Rattle.unum_json.specs.declared.value.Json.{Json};

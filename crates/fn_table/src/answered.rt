@@ -1,3 +1,5 @@
+//! Calls of functions that were answered, and who answers them.
+
 ghost use Rattle.std.specs.Prelude.{◌≡◌, IfOk};
 ghost use Rattle.fn_table.specs.Answers.{answer};
 

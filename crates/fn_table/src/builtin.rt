@@ -1,3 +1,5 @@
+//! The built-in functions, called in this process.
+
 use crate::answered::{Answered, Functions};
 use crate::calls::call;
 use crate::kind::{FnKind, copy_kind};

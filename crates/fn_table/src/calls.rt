@@ -1,3 +1,5 @@
+//! What each built-in function answers.
+
 ghost use Rattle.std.specs.Prelude.{◌≡◌, IfOk};
 ghost use Rattle.std.specs.Option.{option_and_then};
 ghost use Rattle.unum_json.specs.Seen.{shape_of};

@@ -1,3 +1,5 @@
+//! The kinds of built-in functions.
+
 ghost use Rattle.std.specs.Prelude.{◌≡◌, ◌↔◌, IfOk, IsTrue};
 
 use std::alloc::Global;

@@ -1,3 +1,5 @@
+//! The table of functions.
+
 ghost use Rattle.std.specs.Prelude.{◌≡◌, ◌↔◌, [], IsNone, OnOk, OnErr};
 ghost use Rattle.std.specs.List.{Contains};
 ghost use Rattle.std.specs.Map.{keys_of};

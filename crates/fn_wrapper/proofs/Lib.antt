@@ -1,3 +1,4 @@
+-- Lemmas on the program of an instance on flat code.
 mod Branches
 mod Paces
 mod Asks

@@ -462,6 +462,38 @@ fn or_before(phase: Result<Phase, NoMemory>, before: Phase) -> Result<Phase, Pha
     }
 }
 
+/// The phase of an attempt after a reply, from a phase that reads no data.
+#[tactic(auto, unfolding(world_model::specs::AnyCode::Program::absorb))]
+fn moved(instance: Instance<'_>, phase: Phase, reply: Reply<Bitmap>, acts: u32) -> Phase
+    requires ready { IsReady (code_of instance.ir.now) instance.invocation.now phase }
+    requires acts { IsCountOfActs (code_of instance.ir.now) instance.invocation.now phase acts }
+    requires no_data { ReadsData phase → ⊥ }
+    ensures { let it = instance.entry in result ≡ absorb (code_of it.ir.now) it.invocation.now it.ticket phase reply }
+{
+    let name = &instance.invocation.name;
+    match phase {
+        Phase::Looking => looked(name.kind, reply),
+        Phase::Creating(kept) => created(kept, reply),
+        Phase::Acting { kept, done } => acted(kept, done, acts, reply),
+        Phase::Joining(kept) => {
+            drop(reply);
+            Phase::Marking { kept, done: 0 }
+        }
+        Phase::Marking { kept, done } => {
+            drop(reply);
+            marked(name, kept, done)
+        }
+        Phase::Acking { finished } => {
+            drop(reply);
+            Phase::Over { finished }
+        }
+        other => {
+            drop(reply);
+            other
+        }
+    }
+}
+
 /// The phase of an attempt after a reply. Without memory its phase comes back.
 #[tactic(auto, unfolding(world_model::specs::AnyCode::Program::absorb))]
 fn absorbed(
@@ -484,7 +516,6 @@ fn absorbed(
     } = instance;
     let site = invocation.site;
     match phase {
-        Phase::Looking => Ok(looked(invocation.name.kind, reply)),
         Phase::Saving => or_before(saved(alloc, ir, site, ticket, reply), Phase::Saving),
         Phase::Gathering {
             count,
@@ -501,24 +532,7 @@ fn absorbed(
             gathering(alloc, ir, site, ticket, branches, reply)
         }
         Phase::Reading => or_before(read(alloc, instance, reply), Phase::Reading),
-        Phase::Creating(kept) => Ok(created(kept, reply)),
-        Phase::Acting { kept, done } => Ok(acted(kept, done, acts, reply)),
-        Phase::Joining(kept) => {
-            drop(reply);
-            Ok(Phase::Marking { kept, done: 0 })
-        }
-        Phase::Marking { kept, done } => {
-            drop(reply);
-            Ok(marked(&invocation.name, kept, done))
-        }
-        Phase::Acking { finished } => {
-            drop(reply);
-            Ok(Phase::Over { finished })
-        }
-        other => {
-            drop(reply);
-            Ok(other)
-        }
+        other => Ok(moved(instance, other, reply, acts)),
     }
 }
 

@@ -45,20 +45,18 @@ fn bare(alloc: Global, stop: FlatStop) -> Result<Stop<u32>, NoMemory>
         } => {
             let made = enters_of(alloc, children.as_slice());
             drop(children);
-            match made {
-                Ok(enters) => Ok(Stop::Fan {
-                    join: func,
-                    hop,
-                    raw,
-                    used,
-                    enters,
-                }),
-                Err(NoMemory) => {
-                    drop(used);
-                    drop(raw);
-                    Err(NoMemory)
-                }
-            }
+            let Ok(enters) = made else {
+                drop(used);
+                drop(raw);
+                return Err(NoMemory);
+            };
+            Ok(Stop::Fan {
+                join: func,
+                hop,
+                raw,
+                used,
+                enters,
+            })
         }
         FlatStop::End(outcome) => Ok(Stop::Over(outcome)),
     }

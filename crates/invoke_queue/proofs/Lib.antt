@@ -1,3 +1,4 @@
+-- Lemmas on messages and their attempts, and the plan of mishaps in code.
 pub mod Ranks
 pub mod Counts
 pub mod Sets

@@ -1,3 +1,4 @@
+-- Definitions of messages and their attempts, and the plan of mishaps in code.
 pub mod Numbers
 pub mod Queue
 pub mod Plans

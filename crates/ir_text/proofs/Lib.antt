@@ -1,3 +1,4 @@
+-- Lemmas on the text of flat code, as it is printed and read.
 pub mod Steps
 pub mod Judging
 pub mod Alike

@@ -1,3 +1,4 @@
+-- Definitions of the text of flat code, as it is printed and read.
 pub mod Flat
 pub mod Printed
 pub mod Tables

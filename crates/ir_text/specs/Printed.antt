@@ -171,6 +171,12 @@ op_name (TaskOp shape func next care) = codes "task"
 op_name (ParallelOp shape func next care scopes) = codes "parallel"
 op_name (MapOp shape func next care scope items selector limit) = codes "map"
 
+-- it is a Parallel or a Map
+abbrev pub IsFan : Op → Type 0
+IsFan (ParallelOp shape func next care scopes) = Unit {0}
+IsFan (MapOp shape func next care scope items selector limit) = Unit {0}
+IsFan _ = ⊥
+
 abbrev pub op_rows : Op → List Row
 op_rows (PassOp shape result next) = flow shape ++ ((codes "Result", result) ∷ there (codes "next") (number_or_null next) ∷ [])
 op_rows (ChoiceOp shape rules default) = flow shape

@@ -5,8 +5,11 @@ use asl_read::How;
 /// What a number counts, and so what it is below.
 #[derive(Clone, Copy)]
 pub enum Number {
+    /// Nodes.
     Node,
+    /// Functions.
     Func,
+    /// Scopes.
     Scope,
     /// How often a retrier may be taken.
     Most,
@@ -17,31 +20,47 @@ pub enum Number {
 /// What a node is.
 #[derive(Clone, Copy)]
 pub enum NodeKind {
+    /// A Pass.
     Pass,
+    /// A Choice.
     Choice,
+    /// A Succeed.
     Succeed,
+    /// A Fail.
     Fail,
+    /// A Task.
     Task,
+    /// A Parallel.
     Parallel,
+    /// A Map.
     Map,
 }
 
 /// What a function is.
 #[derive(Clone, Copy)]
 pub enum FuncKind {
+    /// The Enter of a scope.
     Enter,
+    /// The Task of a node.
     Task,
+    /// The Join of a fan's node.
     Join,
 }
 
 /// A kind of object, which has a table of fields.
 #[derive(Clone, Copy)]
 pub enum Object {
+    /// The whole flat form.
     Ir,
+    /// A scope.
     Scope,
+    /// A function of this kind.
     Func(FuncKind),
+    /// A node of this kind.
     Node(NodeKind),
+    /// A retrier of a node.
     Retrier,
+    /// A catcher of a node.
     Catcher,
 }
 
@@ -50,7 +69,9 @@ pub enum Object {
 pub enum Part {
     /// As a part of a machine is.
     Field(How),
+    /// A number that counts this.
     Number(Number),
+    /// Such a number, or null.
     NumberOrNull(Number),
     /// An array of numbers.
     Numbers(Number),
@@ -64,8 +85,10 @@ pub enum Part {
     Each(Object),
     /// A node, which is an object of the kind that its `op` names.
     Node,
+    /// An array of nodes.
     Nodes,
     /// A function, which is an object of the kind that its `kind` names.
     Func,
+    /// An array of functions.
     Funcs,
 }

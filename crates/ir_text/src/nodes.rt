@@ -2,7 +2,7 @@
 
 ghost use Rattle.std.specs.Prelude.{◌≡◌, ◌++◌, ◌∷◌, [], IfOk, OnOk, map, Option, codes};
 ghost use Rattle.unum_json.specs.declared.value.Json as json;
-ghost use Rattle.ir_text.specs.Printed.{with_rows, there, unless_none, retrier_value, catcher_value, called, op_name, op_rows, node_value, func_rows, func_value, scope_value, node_rule_value, number_value as a_number, number_or_null as a_number_or_null, scopes_value as some_scopes, path_value as a_path, template_value as a_template, unless_zero as a_number_if, flow};
+ghost use Rattle.ir_text.specs.Printed.{with_rows, there, unless_none, retrier_value, catcher_value, called, op_name, IsFan, op_rows, node_value, func_rows, func_value, scope_value, node_rule_value, number_value as a_number, number_or_null as a_number_or_null, scopes_value as some_scopes, path_value as a_path, template_value as a_template, unless_zero as a_number_if, flow};
 
 use crate::objects::{put, put_if};
 use crate::parts::{
@@ -170,6 +170,42 @@ fn put_fail(
     put(alloc, fields, "cause", value)
 }
 
+/// Adds what the node of a fan has.
+fn put_fan(alloc: Global, fields: &mut Fields<Json>, op: &Op) -> Result<(), NoMemory>
+    requires { IsFan op.now }
+    ensures { OnOk result (fields.new ≡ with_rows fields.old (op_rows op.now)) }
+{
+    match op {
+        Op::Parallel {
+            shape,
+            func,
+            next,
+            care,
+            scopes,
+        } => {
+            put_flow(alloc, fields, shape)?;
+            put_called(alloc, fields, *func, *next, care)?;
+            let value = scopes_value(alloc, scopes.as_slice())?;
+            put(alloc, fields, "scopes", value)
+        }
+        Op::Map {
+            shape,
+            func,
+            next,
+            care,
+            scope,
+            items,
+            selector,
+            limit,
+        } => {
+            put_flow(alloc, fields, shape.shape())?;
+            put_called(alloc, fields, *func, *next, care)?;
+            put_map(alloc, fields, *scope, items, selector, *limit)
+        }
+        _ => unreachable!(),
+    }
+}
+
 /// Adds what a node of its op has.
 fn put_op(alloc: Global, fields: &mut Fields<Json>, op: &Op) -> Result<(), NoMemory>
     ensures { OnOk result (fields.new ≡ with_rows fields.old (op_rows op.now)) }
@@ -202,32 +238,7 @@ fn put_op(alloc: Global, fields: &mut Fields<Json>, op: &Op) -> Result<(), NoMem
             put_flow(alloc, fields, shape)?;
             put_called(alloc, fields, *func, *next, care)
         }
-        Op::Parallel {
-            shape,
-            func,
-            next,
-            care,
-            scopes,
-        } => {
-            put_flow(alloc, fields, shape)?;
-            put_called(alloc, fields, *func, *next, care)?;
-            let value = scopes_value(alloc, scopes.as_slice())?;
-            put(alloc, fields, "scopes", value)
-        }
-        Op::Map {
-            shape,
-            func,
-            next,
-            care,
-            scope,
-            items,
-            selector,
-            limit,
-        } => {
-            put_flow(alloc, fields, shape.shape())?;
-            put_called(alloc, fields, *func, *next, care)?;
-            put_map(alloc, fields, *scope, items, selector, *limit)
-        }
+        fan => put_fan(alloc, fields, fan),
     }
 }
 

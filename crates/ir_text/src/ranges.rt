@@ -15,8 +15,11 @@ use std::alloc::Global;
 /// How many nodes, functions and scopes there are.
 #[derive(Clone, Copy)]
 pub struct Sizes {
+    /// How many nodes.
     pub nodes: usize,
+    /// How many functions.
     pub funcs: usize,
+    /// How many scopes.
     pub scopes: usize,
 }
 

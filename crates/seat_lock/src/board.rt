@@ -19,9 +19,13 @@ pub enum Stage {
 
 /// What a seat knows. No value of it is made. A seat that was joined into another has no share and no opening.
 pub struct View<O> {
+    /// What the value began with.
     pub opening: Option<O>,
+    /// The log that it has seen.
     pub seen: LinkedList<u64>,
+    /// How many shares of the lock the seat has.
     pub share: u64,
+    /// Where it stands.
     pub stage: Stage,
     /// The shorter of the two logs at the last join, where no turn came since.
     pub other: LinkedList<u64>,
@@ -30,10 +34,13 @@ pub struct View<O> {
 /// What the table is told when it is made: the first value, and the number of seats.
 #[derive(Drop)]
 pub struct Key<W> {
+    /// The first value.
     pub first: Snapshot<W>,
+    /// The number of seats.
     pub seats: u64,
 }
 
+/// The rule of the table under the lock.
 pub struct Turns;
 
 impl<W: Logged> TableRule<Option<W>, View<W::Opening>, Key<W>> for Turns {

@@ -1,2 +1,3 @@
+-- Lemmas on the report of a world.
 pub mod Computed
 pub mod Lines

@@ -1,2 +1,3 @@
+-- Definitions of the report of a world.
 pub mod Report
 pub mod Shown

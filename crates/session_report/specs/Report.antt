@@ -42,14 +42,16 @@ entry_line w k = entry_text (slice_get w.journal k)
 
 unfoldable pub sessions_text : Totals → List ℕ
 sessions_text t =
-    codes "totals sessions " ++ decimal t.sessions ++ codes " ended " ++ decimal t.ended ++ codes " abandoned " ++ decimal t.abandoned ++ codes " open " ++ decimal t.still_open
+    codes "totals sessions " ++ decimal t.sessions ++ codes " ended " ++ decimal t.ended ++ codes " abandoned "
+    ++ decimal t.abandoned ++ codes " open " ++ decimal t.still_open
 
 unfoldable pub counts_text : Totals → List ℕ
 counts_text t =
     codes " entries " ++ decimal t.entries ++ codes " events " ++ decimal t.events ++ codes " invocations " ++ decimal t.invocations
 
 unfoldable pub tries_text : Totals → List ℕ
-tries_text t = codes " attempts " ++ decimal t.attempts ++ codes " crashes " ++ decimal t.crashes ++ codes " marks " ++ decimal t.marks ++ codes "\n"
+tries_text t = codes " attempts " ++ decimal t.attempts ++ codes " crashes " ++ decimal t.crashes ++ codes " marks "
+    ++ decimal t.marks ++ codes "\n"
 
 unfoldable pub totals_text : Totals → List ℕ
 totals_text t = sessions_text t ++ counts_text t ++ tries_text t

@@ -21,7 +21,9 @@ FailureText = outcome_text (Failed (record { error = codes "E"; cause = codes "c
 abbrev pub Lines : Type 0
 Lines = (o : Outcome) →
     (session_text 3 (Some (Ended o)) ≡ codes "session 3 ended " ++ outcome_text o ++ codes "\n")
-    × (entry_text (Some (record { name = record { place = record { session = 0; trail = []; hop = 1 }; kind = kind.Task }; answer = o; ticket = 7 })) ≡ codes "entry 0/1!T 7 " ++ outcome_text o ++ codes "\n")
+    × (entry_text
+    (Some (record { name = record { place = record { session = 0; trail = []; hop = 1 }; kind = kind.Task }; answer = o; ticket = 7 }))
+    ≡ codes "entry 0/1!T 7 " ++ outcome_text o ++ codes "\n")
 
 -- each total stands in its place
 abbrev pub TotalsLine : Type 0
@@ -47,7 +49,8 @@ crash_once a = Deliver 0 ∷ Crash a ∷ []
 -- the first session is delivered eight times, crashes each time, and is given up
 abbrev pub given_up : List Event
 given_up =
-    crash_once 0 ++ crash_once 1 ++ crash_once 2 ++ crash_once 3 ++ crash_once 4 ++ crash_once 5 ++ crash_once 6 ++ crash_once 7 ++ (GiveUp 0 ∷ Deliver 1 ∷ [])
+    crash_once 0 ++ crash_once 1 ++ crash_once 2 ++ crash_once 3 ++ crash_once 4 ++ crash_once 5 ++ crash_once 6 ++ crash_once 7
+    ++ (GiveUp 0 ∷ Deliver 1 ∷ [])
 
 -- two sessions, whatever their inputs are
 abbrev pub two_sessions : List (List ℕ × Machine) → Table → Plan → (a b : Json) → Opening

@@ -59,6 +59,7 @@ pub fn text_in(cell: &Json) -> Result<&Text, Refused> {
     }
 }
 
+/// The number of a cell, below 2 to the 32nd. `NoCase` where it has none.
 pub fn number(cell: &Json) -> Result<u32, Refused> {
     match cell.seen() {
         Seen::Int(n) => u32::try_from(n).ok().ok_or(Refused::NoCase),
@@ -73,6 +74,7 @@ fn push_numbers(numbers: &mut Vec<u32>, cells: &[Json]) -> Result<(), Refused> {
     Ok(())
 }
 
+/// The numbers of cells, in their order. `NoCase` where some cell has none.
 pub fn numbers(alloc: Global, cells: &[Json]) -> Result<Vec<u32>, Refused> {
     let mut numbers = Vec::new(alloc);
     match push_numbers(&mut numbers, cells) {

@@ -10,15 +10,25 @@ use unum_json::{JsonError, NoMemory, Text, WholeError};
 /// A call was refused, or the line is no case.
 #[derive(Clone, Copy)]
 pub enum Refused {
+    /// The line is no case.
     NoCase,
+    /// Memory ran out.
     NoMemory,
+    /// The bytes are no JSON text.
     NotJson,
+    /// The source gave more bytes than were asked for.
     TooLong,
+    /// A read or a write failed.
     Fault,
+    /// A path leads to no place in the value.
     NoPlace,
+    /// A path of a template finds nothing.
     Missing,
+    /// What a template makes is too large.
     TooLarge,
+    /// A path of a rule found nothing.
     PathFailure,
+    /// A pattern ends in a backslash that makes nothing literal.
     LoneBackslash,
     /// Nothing was found.
     Nothing,
@@ -29,6 +39,7 @@ pub enum Refused {
 }
 
 impl Refused {
+    /// The word that is printed for it.
     pub fn word(self) -> &'static str {
         match self {
             Refused::NoCase => "no case",

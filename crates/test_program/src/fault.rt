@@ -3,10 +3,12 @@
 use std::alloc::{AllocError, AllocFailed};
 use unum_json::NoMemory;
 
+/// Why a case has no answer.
 #[derive(Clone, Copy, Debug)]
 pub enum Fault {
     /// Its line is not one that is read here, or its bytes are no bundle.
     NotRead,
+    /// Memory ran out.
     NoMemory,
 }
 

@@ -88,6 +88,7 @@ const CHAIN: (&str, &str) = (
 );
 
 impl Given {
+    /// No bundle, and no bytes.
     pub fn new(alloc: Global) -> Given {
         Given {
             bundle: String::new(alloc),
@@ -95,6 +96,7 @@ impl Given {
         }
     }
 
+    /// The bytes that were taken over last.
     pub fn bytes(&self) -> &[u8] {
         self.bytes.as_slice()
     }

@@ -8,6 +8,7 @@ use unum_json::{
     Fault as Failure, Items, Json, Outcome, Text, outcome_json, read, to_json, to_text,
 };
 
+/// The value that a text spells. `NotRead` where it spells none.
 pub fn json(alloc: Global, text: &str) -> Result<Json, Fault> {
     let value = read(alloc, text.as_bytes()).map_err(|_| Fault::NotRead)?;
     to_json(alloc, &value).map_err(|_| Fault::NotRead)
@@ -41,12 +42,14 @@ fn outcome(alloc: Global, words: &str) -> Result<Outcome, Fault> {
     Ok(Outcome::Failed(Failure { error, cause }))
 }
 
+/// Adds the text of a value.
 pub fn push_json(alloc: Global, out: &mut String, value: &Json) -> Result<(), Fault> {
     let text = to_text(alloc, value)?;
     out.push_str(text.as_str())?;
     Ok(())
 }
 
+/// Adds `over`, and the outcome with which a scope ends.
 pub fn push_over(alloc: Global, out: &mut String, outcome: &Outcome) -> Result<(), Fault> {
     let value = outcome_json(alloc, outcome)?;
     out.push_str("over ")?;
@@ -78,8 +81,11 @@ pub fn push_stop(
 /// What the visit of a state had.
 #[derive(Drop)]
 pub struct Had {
+    /// Its raw data.
     pub raw: Json,
+    /// How often each of its retriers was taken.
     pub used: Used,
+    /// What was answered to it.
     pub answer: Outcome,
 }
 
@@ -93,6 +99,7 @@ pub fn read_had(alloc: Global, words: &str) -> Result<Had, Fault> {
     Ok(Had { raw, used, answer })
 }
 
+/// Adds the outcomes of a list that has `|` between them.
 pub fn push_outcomes(alloc: Global, outcomes: &mut Vec<Outcome>, list: &str) -> Result<(), Fault> {
     for words in list.split('|') {
         outcomes.push(outcome(alloc, words.trim())?)?;

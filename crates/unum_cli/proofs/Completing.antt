@@ -13,7 +13,7 @@ use Rattle.world_plans.proofs.Allows.{chosen_obey}
 use Rattle.central_model.specs.Asking.{answer_of, functions_of}
 use Rattle.unum_world.specs.declared.opening.Opening.{Opening}
 use Rattle.unum_world.specs.Openings.{codes_of}
-use Rattle.unum_world.specs.Traces.{Trace, opened_world, IsChosen, IsObeying, IsDrained}
+use Rattle.unum_world.specs.Traces.{Trace, opened_world, IsObeying, IsDrained}
 use Rattle.unum_world.specs.Cost.{CostsAlone, HasItsCost}
 use Rattle.unum_world.specs.Sound.{IsSound}
 use Rattle.unum_cli.specs.declared.answer.Desk.{Desk}
@@ -23,8 +23,10 @@ use Rattle.unum_cli.specs.declared.answer.Status.TheVariants.{Written, Refused, 
 use Rattle.unum_cli.specs.declared.commands.Command.{Command}
 use Rattle.unum_cli.specs.declared.commands.Command.TheVariants.{Bundle, Ir, Make}
 use Rattle.unum_cli.specs.declared.commands.BundleCommand.TheVariants.{Validate, Compile, Central, Simulate}
+use Rattle.unum_cli.specs.declared.commands.RunOptions.{RunOptions}
+use Rattle.unum_cli.specs.Run.{ShowsRun, ShowsRunDone}
 use Rattle.unum_cli.specs.Tool.{Maker, By_chooser, By_workers, Due, Usage_due, Refusal_due, Text_due, Part_due, World_due, Flat_due, due_words, made_opening, made_text, Answers, AnswersWorld, HoldsSound, IsMadeBy, IsSpent, Done, ShowsDone, ShowsOr, Shows}
-use Rattle.unum_cli.specs.Completeness.{sequential_cost, IsReached, IsExact, IsSpentByCost, Completes, DeskCompletes, SpendsByCost}
+use Rattle.unum_cli.specs.Completeness.{sequential_cost, IsReached, IsExact, IsSpentByCost, Completes, DeskCompletes, SpendsByCost, RunSpendsByCost}
 
 -- ---------------------------------------------------------------- functions
 
@@ -170,3 +172,10 @@ made_completes n (Some bytes) status desk old new h s = world_completes (made_te
 pub made_leaves : (n : ℕ) (status : Status) (desk : Desk) (old new : Option (List ℕ)) →
     AnswersWorld (made_text n) By_chooser (made_opening n) 1000000 status desk old new → HoldsSound desk → SpendsByCost (Some (Make n)) status desk
 made_leaves n status desk old new h s = of_made n status desk (world_completes (made_text n) By_chooser (made_opening n) 1000000 status desk old new h s)
+
+-- the same of `run`
+pub shown_run_spends : (o : Option RunOptions) (status : Status) (desk : Desk) (old new : Option (List ℕ)) → ShowsRun o status desk old new → HoldsSound desk →
+    RunSpendsByCost o status desk
+shown_run_spends None status desk old new h s = tt
+shown_run_spends (Some o) status desk old new h s =
+    desk_completes o.limit By_workers (ShowsRunDone (Some o)) (λ p old new k. (k.0, k.1, k.2)) (λ p old new k. (k.0, k.1, k.2)) status desk old new h s

@@ -1,7 +1,7 @@
 -- The examples of words by computation.
 use Rattle.std.proofs.Common.{refl}
-use Rattle.unum_cli.specs.Words.{number_from, number_within, command}
-use Rattle.unum_cli.specs.Shown.{CentralWords, LimitBounds, LimitDigits, MakeWords}
+use Rattle.unum_cli.specs.Words.{number_from, number_within, command, run_command}
+use Rattle.unum_cli.specs.Shown.{CentralWords, LimitBounds, LimitDigits, MakeWords, RunWords}
 
 pub limit_bounds : LimitBounds
 unfolding command number_within number_from
@@ -18,3 +18,7 @@ central_words = (refl, refl, refl, refl)
 pub make_words : MakeWords
 unfolding command number_within number_from
 make_words = (refl, refl, refl, refl, refl, refl, refl)
+
+pub run_words : RunWords
+unfolding run_command number_within number_from
+run_words = (refl, refl, refl, refl, refl, refl, refl, refl)

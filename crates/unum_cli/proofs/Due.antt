@@ -30,6 +30,8 @@ use Rattle.unum_cli.specs.Refused.{refusal_text}
 use Rattle.session_report.specs.Report.{report}
 use Rattle.unum_cli.specs.Valid.{valid_text}
 use Rattle.unum_cli.specs.Words.{simulation}
+use Rattle.unum_cli.specs.declared.commands.RunOptions.{RunOptions}
+use Rattle.unum_cli.specs.Run.{due_run_judged, ShowsRun, ShowsRunDone}
 use Rattle.unum_cli.specs.Tool.{Maker, By_chooser, By_workers, Done, ShowsOr, ShowsDone, due_bundle, due_words, made_opening, made_text, text_due, Answers, AnswersPart, AnswersRefusal, AnswersText, AnswersUntaken, AnswersUsage, AnswersWorld, EndsAfter, EndsRead, HoldsSound, OnDesk, Shows, Takes, TakesAll, TakesBytes, TakesFlat, AnswersFlat, AnswersJudged, IsMadeBy, IsSpent, IsWorldOf, Wrote, due_judged}
 
 pub each_some : {T : Type 0} (o : Option T) (P : T → Type 0) → ((x : T) → o ≡ Some x → P x) → IfSome o P
@@ -86,6 +88,9 @@ usage_tells done NoMemory desk old new h = absurd h
 pub usage_shows : (c : Option Command) (status : Status) (desk : Desk) (old new : Option (List ℕ)) → AnswersUsage status desk old new → Shows c status desk old new
 usage_shows c = usage_tells (ShowsDone c)
 
+pub usage_shows_run : (o : Option RunOptions) (status : Status) (desk : Desk) (old new : Option (List ℕ)) → AnswersUsage status desk old new → ShowsRun o status desk old new
+usage_shows_run o = usage_tells (ShowsRunDone o)
+
 refusal_tells : (done : Done) (r : Refusal) (status : Status) (desk : Desk) (old new : Option (List ℕ)) → AnswersRefusal r status desk old new → ShowsOr done status desk old new
 refusal_tells done r (Refused s) desk old new h = (h.1, subst (λ t. Appends old new (refusal_text t)) (sym h.0) h.2)
 refusal_tells done r WriteFault desk old new h = tt
@@ -133,6 +138,17 @@ world_shows o limit ReadFault desk old new h = h
 world_shows o limit NoMemory desk old new h = h.1
 world_shows o limit (Refused r) desk old new h = absurd h
 world_shows o limit Usage desk old new h = absurd h
+
+pub run_shows : (r : RunOptions) (o : Opening) (status : Status) (desk : Desk) (old new : Option (List ℕ)) → AnswersWorld report By_workers o r.limit status desk old new → ShowsRun (Some r) status desk old new
+run_shows r o Written Empty old new h = absurd h
+run_shows r o Written (Open w) old new h = (h.0.limit_is, h.0.made, h.1, h.2)
+run_shows r o Spent Empty old new h = absurd h
+run_shows r o Spent (Open w) old new h = (h.0.limit_is, h.0.made, h.1, h.2)
+run_shows r o WriteFault desk old new h = tt
+run_shows r o ReadFault desk old new h = h
+run_shows r o NoMemory desk old new h = h.1
+run_shows r o (Refused s) desk old new h = absurd h
+run_shows r o Usage desk old new h = absurd h
 
 pub made_shows : (n : ℕ) (status : Status) (desk : Desk) (old new : Option (List ℕ)) → AnswersWorld (made_text n) By_chooser (made_opening n) 1000000 status desk old new → Shows (Some (command.Make n)) status desk old new
 made_shows n Written desk old new h = h
@@ -221,6 +237,10 @@ untaken_judged Compile (Ok b) status desk old new s d k = untaken_text (compiled
 untaken_judged (Central limit) (Ok b) status desk old new s d k = untaken_central (all_fit b limit) (central_text b limit) status desk old new s d k
 untaken_judged (Simulate limit) (Ok b) status desk old new s d k = untaken_world report By_chooser (opening_of b) limit status desk old new s d k
 
+untaken_run_judged : (limit : ℕ) (due : Result Accepted Refusal) (status : Status) (desk : Desk) (old new : Option (List ℕ)) → (status ≡ ReadFault) ⊎ (status ≡ NoMemory) → desk ≡ Empty → Keeps old new → Answers (due_run_judged limit due) status desk old new
+untaken_run_judged limit (Err r) status desk old new s d k = untaken_due r status desk old new s d k
+untaken_run_judged limit (Ok b) status desk old new s d k = untaken_world report By_workers (opening_of b) limit status desk old new s d k
+
 -- what is told of flat code that was judged is due
 pub judged_due : (made : Result Ir Refusal) (bytes : List ℕ) (status : Status) (desk : Desk) (old new : Option (List ℕ)) → JudgesFlat made bytes → AnswersJudged made status desk old new → AnswersFlat bytes status desk old new
 judged_due made bytes Written desk old new t h = (made, t, h)
@@ -239,6 +259,11 @@ untaken_bundle_due c (take.Refused r) due status desk old new t h = subst (λ x.
 untaken_bundle_due c take.Fault due status desk old new t h = untaken_judged c due status desk old new (inl h.0) h.1 h.2
 untaken_bundle_due c take.NoMemory due status desk old new t h = untaken_judged c due status desk old new (inr h.0) h.1 h.2
 
+pub untaken_run_due : (limit : ℕ) (e : TakeError) (due : Result Accepted Refusal) (status : Status) (desk : Desk) (old new : Option (List ℕ)) → Takes (Err e) due → AnswersUntaken e status desk old new → Answers (due_run_judged limit due) status desk old new
+untaken_run_due limit (take.Refused r) due status desk old new t h = subst (λ x. Answers (due_run_judged limit x) status desk old new) (sym t) h
+untaken_run_due limit take.Fault due status desk old new t h = untaken_run_judged limit due status desk old new (inl h.0) h.1 h.2
+untaken_run_due limit take.NoMemory due status desk old new t h = untaken_run_judged limit due status desk old new (inr h.0) h.1 h.2
+
 -- and so of flat code
 pub untaken_flat_due : (e : TakeError) (bytes : List ℕ) (status : Status) (desk : Desk) (old new : Option (List ℕ)) → TakesFlat (Err e) (λ made. JudgesFlat made bytes) → AnswersUntaken e status desk old new → AnswersFlat bytes status desk old new
 untaken_flat_due (take.Refused r) bytes status desk old new t h = judged_due (Err r) bytes status desk old new t h
@@ -252,6 +277,9 @@ untaken_tells done take.NoMemory status desk old new h = subst (λ s. ShowsOr do
 
 pub untaken_shows : (c : Option Command) (e : TakeError) (status : Status) (desk : Desk) (old new : Option (List ℕ)) → AnswersUntaken e status desk old new → Shows c status desk old new
 untaken_shows c = untaken_tells (ShowsDone c)
+
+pub untaken_shows_run : (o : Option RunOptions) (e : TakeError) (status : Status) (desk : Desk) (old new : Option (List ℕ)) → AnswersUntaken e status desk old new → ShowsRun o status desk old new
+untaken_shows_run o = untaken_tells (ShowsRunDone o)
 
 pub untaken_ends : (A : Type 0) (e : TakeError) (status : Status) (desk : Desk) (old new left : Option (List ℕ)) → AnswersUntaken e status desk old new → TakesAll {A = A} (Err e) left → EndsRead status left
 untaken_ends A (take.Refused r) status desk old new left h t = refusal_ends r status desk old new left h t

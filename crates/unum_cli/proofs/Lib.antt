@@ -1,3 +1,4 @@
+-- Lemmas on the words, the texts, and what a call answers, writes and leaves.
 pub mod Completing
 pub mod Computed
 pub mod Due

@@ -8,6 +8,7 @@ use Rattle.unum_world.specs.Cost.{events_so_far, events_alone}
 use Rattle.unum_cli.specs.declared.commands.Command.{Command}
 use Rattle.unum_cli.specs.declared.commands.Command.TheVariants.{Bundle, Make}
 use Rattle.unum_cli.specs.declared.commands.BundleCommand.TheVariants.{Simulate}
+use Rattle.unum_cli.specs.declared.commands.RunOptions.{RunOptions}
 use Rattle.unum_cli.specs.declared.answer.Status.{Status}
 use Rattle.unum_cli.specs.declared.answer.Status.TheVariants.{Written, Spent}
 use Rattle.unum_cli.specs.declared.answer.Desk.{Desk}
@@ -55,3 +56,8 @@ abbrev pub SpendsByCost : Option Command → Status → Desk → Type 0
 SpendsByCost (Some (Bundle (Simulate limit))) status desk = DeskCompletes limit status desk
 SpendsByCost (Some (Make n)) status desk = IsReached status 1000000 desk × IsExact status 1000000 (sequential_cost (made_opening n))
 SpendsByCost c status desk = Unit {0}
+
+-- and of the world that `run` leaves on the desk
+abbrev pub RunSpendsByCost : Option RunOptions → Status → Desk → Type 0
+RunSpendsByCost (Some o) status desk = DeskCompletes o.limit status desk
+RunSpendsByCost o status desk = Unit {0}

@@ -154,7 +154,8 @@ AnswersPart text _ desk old new = ⊥
 abbrev pub AnswersWorld : (told : Trace → List ℕ) → Maker → Opening → (limit : ℕ) → Status → Desk → (old new : Option (List ℕ)) → Type 0
 AnswersWorld told maker o limit Written desk old new = OnDesk desk (λ p. IsWorldOf maker o limit p × IsDrained p × Appends old new (told p))
 AnswersWorld told maker o limit Spent desk old new = OnDesk desk (λ p. IsWorldOf maker o limit p × IsSpent p × Appends old new (told p))
-AnswersWorld told maker o limit WriteFault desk old new = OnDesk desk (λ p. IsWorldOf maker o limit p × (IsDrained p ⊎ IsSpent p) × TookFront old new (told p))
+AnswersWorld told maker o limit WriteFault desk old new =
+    OnDesk desk (λ p. IsWorldOf maker o limit p × (IsDrained p ⊎ IsSpent p) × TookFront old new (told p))
 AnswersWorld told maker o limit ReadFault desk old new = (desk ≡ Empty) × Keeps old new
 AnswersWorld told maker o limit NoMemory desk old new = ((desk ≡ Empty) ⊎ OnDesk desk (λ p. IsWorldOf maker o limit p)) × Keeps old new
 AnswersWorld told maker o limit _ desk old new = ⊥
@@ -184,14 +185,21 @@ Answers (Flat_due bytes) status desk old new = AnswersFlat bytes status desk old
 -- what is written of a bundle or of a world, of which the command is not asked to tell from what bytes it came
 abbrev pub ShowsDone : Option Command → Status → Desk → (old new : Option (List ℕ)) → Type 0
 ShowsDone (Some (Bundle Validate)) Written desk old new = (desk ≡ Empty) × ((b : Accepted) × IsAccepted b × Appends old new (valid_text b))
-ShowsDone (Some (Bundle Compile)) Written desk old new = (desk ≡ Empty) × ((b : Accepted) × IsAccepted b × Appends old new (compiled_text b))
-ShowsDone (Some (Bundle (Central limit))) Written desk old new = (desk ≡ Empty) × ((b : Accepted) × IsAccepted b × (all_fit b limit ≡ true) × Appends old new (central_text b limit))
-ShowsDone (Some (Bundle (Central limit))) Spent desk old new = (desk ≡ Empty) × ((b : Accepted) × IsAccepted b × (all_fit b limit ≡ false) × Appends old new (central_text b limit))
+ShowsDone (Some (Bundle Compile)) Written desk old new =
+    (desk ≡ Empty) × ((b : Accepted) × IsAccepted b × Appends old new (compiled_text b))
+ShowsDone (Some (Bundle (Central limit))) Written desk old new =
+    (desk ≡ Empty) × ((b : Accepted) × IsAccepted b × (all_fit b limit ≡ true) × Appends old new (central_text b limit))
+ShowsDone (Some (Bundle (Central limit))) Spent desk old new =
+    (desk ≡ Empty) × ((b : Accepted) × IsAccepted b × (all_fit b limit ≡ false) × Appends old new (central_text b limit))
 ShowsDone (Some Ir) Written desk old new = (desk ≡ Empty) × ((ir : FlatIr) × IsWellFormed ir × Appends old new (flat_text ir))
-ShowsDone (Some (Bundle (Simulate limit))) Written desk old new = OnDesk desk (λ p. (p.limit ≡ limit) × IsChosen p × IsDrained p × Appends old new (report p))
-ShowsDone (Some (Bundle (Simulate limit))) Spent desk old new = OnDesk desk (λ p. (p.limit ≡ limit) × IsChosen p × IsSpent p × Appends old new (report p))
-ShowsDone (Some (Make n)) Written desk old new = OnDesk desk (λ p. IsWorldOf By_chooser (made_opening n) 1000000 p × IsDrained p × Appends old new (made_text n p))
-ShowsDone (Some (Make n)) Spent desk old new = OnDesk desk (λ p. IsWorldOf By_chooser (made_opening n) 1000000 p × IsSpent p × Appends old new (made_text n p))
+ShowsDone (Some (Bundle (Simulate limit))) Written desk old new =
+    OnDesk desk (λ p. (p.limit ≡ limit) × IsChosen p × IsDrained p × Appends old new (report p))
+ShowsDone (Some (Bundle (Simulate limit))) Spent desk old new =
+    OnDesk desk (λ p. (p.limit ≡ limit) × IsChosen p × IsSpent p × Appends old new (report p))
+ShowsDone (Some (Make n)) Written desk old new =
+    OnDesk desk (λ p. IsWorldOf By_chooser (made_opening n) 1000000 p × IsDrained p × Appends old new (made_text n p))
+ShowsDone (Some (Make n)) Spent desk old new =
+    OnDesk desk (λ p. IsWorldOf By_chooser (made_opening n) 1000000 p × IsSpent p × Appends old new (made_text n p))
 ShowsDone c status desk old new = ⊥
 
 -- what is shown where all is done, or the limit was spent

@@ -2,6 +2,7 @@
 use Rattle.std.specs.Prelude.{ℕ, ◌+◌, ◌-◌, ◌*◌, ◌≤◌, ◌&&◌, nat_le, List, [], ◌∷◌, take, drop, length, codes, Option, Some, None, option_map, if◌then◌else◌}
 use Rattle.std.specs.Str.{bytes_eq}
 use Rattle.unum_cli.specs.declared.commands.Command.{Command}
+use Rattle.unum_cli.specs.declared.commands.RunOptions.{RunOptions}
 use Rattle.unum_cli.specs.declared.commands.Command.TheVariants.{Bundle, Ir, Make}
 use Rattle.unum_cli.specs.declared.commands.BundleCommand.TheVariants.{Validate, Compile, Central, Simulate}
 
@@ -85,6 +86,54 @@ command_in (r ∷ rs) w ws = if bytes_eq w r.word then r.with_options ws else co
 unfoldable pub command : List Word → Option Command
 command [] = None
 command (w ∷ ws) = command_in commands w ws
+
+-- ---------------------------------------------------------------- the words of `run`
+
+-- the value of `--workers` in the spelling with a sign
+abbrev pub workers_value : Word → Option Word
+workers_value w = if bytes_eq (take 10 w) (codes "--workers=") then Some (drop 10 w) else None
+
+abbrev pub joined_workers : Option Word → Option ℕ
+joined_workers None = None
+joined_workers (Some n) = number_within 32 n
+
+-- the workers of the option, in one of its two spellings: from 1 to 32
+abbrev pub workers_in : List Word → Option ℕ
+workers_in (w ∷ []) = joined_workers (workers_value w)
+workers_in (w ∷ n ∷ []) = if bytes_eq w (codes "--workers") then number_within 32 n else None
+workers_in _ = None
+
+-- both, where both are there
+abbrev pub run_with : Option ℕ → Option ℕ → Option RunOptions
+run_with (Some workers) (Some limit) = Some (record { workers = workers; limit = limit })
+run_with _ _ = None
+
+-- the workers stand in the first n words, and the limit in the others
+abbrev pub workers_first : (n : ℕ) → List Word → Option RunOptions
+workers_first n ws = run_with (workers_in (take n ws)) (limit_in (drop n ws))
+
+-- the limit stands in the first n words, and the workers in the others
+abbrev pub limit_first : (n : ℕ) → List Word → Option RunOptions
+limit_first n ws = run_with (workers_in (drop n ws)) (limit_in (take n ws))
+
+abbrev pub or_else : Option RunOptions → Option RunOptions → Option RunOptions
+or_else (Some o) p = Some o
+or_else None p = p
+
+-- the workers and, if it is given, a limit, in any order, each in one or in two words
+abbrev pub run_in : List Word → Option RunOptions
+run_in ws = or_else (workers_first 1 ws) (or_else (workers_first 2 ws) (or_else (limit_first 1 ws) (limit_first 2 ws)))
+
+-- the options of `run`, where the words are it
+unfoldable pub run_command : List Word → Option RunOptions
+run_command [] = None
+run_command (w ∷ ws) = if bytes_eq w (codes "run") then run_in ws else None
+
+-- there are 1 to 32 workers, and the limit is at most 10,000,000
+pub record IsLimitedRun (o : RunOptions) : Type 0 where
+  pub some : 1 ≤ o.workers
+  pub few : o.workers ≤ 32
+  pub limit : o.limit ≤ 10000000
 
 -- a limit is at most 10,000,000, and there are at most 1,000 sessions
 abbrev pub IsLimited : Command → Type 0

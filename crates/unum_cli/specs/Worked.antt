@@ -37,7 +37,8 @@ TwinsByRate = (twin (rates 1 0 157) 0 ≡ true) × (twin (rates 1 0 156) 0 ≡ f
 
 -- a listed step stands before a drawn one, and a listed twin needs no rate
 abbrev pub ListsFirst : Type 0
-ListsFirst = (crash_step scripted 0 ≡ Some 3) × (crash_step (rates 1 1000 0) 0 ≡ Some 7) × (twin scripted 5 ≡ true) × (twin scripted 4 ≡ false)
+ListsFirst =
+    (crash_step scripted 0 ≡ Some 3) × (crash_step (rates 1 1000 0) 0 ≡ Some 7) × (twin scripted 5 ≡ true) × (twin scripted 4 ≡ false)
 
 -- with seed 0 the first event is picked, and else a drawn one
 abbrev pub Picks : Type 0
@@ -92,7 +93,8 @@ StaysOpen = (o : Opening) →
 
 -- and it has ended where its outcome is there, whatever lives
 abbrev pub Ends : Type 0
-Ends = (o : Opening) (outcome : Outcome) → standing (with_one o (objects_with (Out (root 0)) (Live (OutcomeIs outcome)) nothing) waiting) 0 ≡ Ended outcome
+Ends =
+    (o : Opening) (outcome : Outcome) → standing (with_one o (objects_with (Out (root 0)) (Live (OutcomeIs outcome)) nothing) waiting) 0 ≡ Ended outcome
 
 -- crashes are the Crash events, and marks the steps that were a Mark
 abbrev pub CrashesAndMarks : Type 0

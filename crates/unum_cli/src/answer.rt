@@ -1,3 +1,4 @@
+//! How a call ends, and where it leaves its world.
 use bundle_read::Refusal;
 use unum_world::World;
 
@@ -23,6 +24,8 @@ pub enum Status {
 /// Where a call leaves its world.
 #[derive(Drop)]
 pub enum Desk {
+    /// There is no world.
     Empty,
+    /// The world of the bundle, as far as it got.
     Open(World),
 }

@@ -13,6 +13,15 @@ pub enum BundleCommand {
     Simulate { limit: u64 },
 }
 
+/// How `run` is asked for.
+#[derive(Clone, Copy, Debug, PartialEq, Eq)]
+pub struct RunOptions {
+    /// How many workers there are, from 1 to 32.
+    pub workers: u32,
+    /// The most events, at most 10,000,000.
+    pub limit: u64,
+}
+
 /// A command with its options.
 #[derive(Clone, Copy, Debug, PartialEq, Eq)]
 pub enum Command {

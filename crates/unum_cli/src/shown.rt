@@ -1,6 +1,6 @@
 //! Words, plans, and how sessions stand, by examples.
 
-ghost use Rattle.unum_cli.specs.Shown.{CentralWords, LimitBounds, LimitDigits, MakeWords};
+ghost use Rattle.unum_cli.specs.Shown.{CentralWords, LimitBounds, LimitDigits, MakeWords, RunWords};
 ghost use Rattle.unum_cli.specs.Worked.{Abandons, CrashesAndMarks, CrashesByRate, CrashesInTime, Draws, Ends, ListsFirst, Picks, StaysOpen, TwinsByRate};
 
 /// Which words are which command, with which limit.
@@ -9,6 +9,7 @@ pub fn worked_words()
     ensures digits { LimitDigits }
     ensures central { CentralWords }
     ensures make { MakeWords }
+    ensures run { RunWords }
 {}
 
 /// What some plans draw, and when an attempt crashes by one.

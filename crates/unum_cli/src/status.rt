@@ -1,3 +1,4 @@
+//! The exit status of each way that a call ends.
 ghost use Rattle.std.specs.Prelude.{◌≡◌};
 ghost use Rattle.unum_cli.specs.Codes.{code};
 

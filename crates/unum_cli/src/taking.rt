@@ -26,6 +26,7 @@ pub enum TakeError {
     Refused(Refusal),
     /// A read failed.
     Fault,
+    /// Memory ran out.
     NoMemory,
 }
 

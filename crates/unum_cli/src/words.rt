@@ -1,9 +1,9 @@
 //! The words of the command line.
 
-ghost use Rattle.std.specs.Prelude.{◌≡◌, ◌≤◌, ◌<◌, ◌^◌, ◌*◌, length, option_map, IfSome};
-ghost use Rattle.unum_cli.specs.Words.{number_from, number_within, limit_of, limit_in, command, central, simulation, with_limit, with_sessions, without_options, IsLimited};
+ghost use Rattle.std.specs.Prelude.{◌≡◌, ◌≤◌, ◌<◌, ◌^◌, ◌*◌, length, take, drop, option_map, IfSome};
+ghost use Rattle.unum_cli.specs.Words.{number_from, number_within, limit_of, limit_in, workers_in, run_with, workers_first, limit_first, run_in, run_command, command, central, simulation, with_limit, with_sessions, without_options, IsLimited, IsLimitedRun};
 
-use crate::commands::{BundleCommand, Command};
+use crate::commands::{BundleCommand, Command, RunOptions};
 use unum_json::{Items, Text};
 
 /// The limit where none is given.
@@ -30,6 +30,7 @@ fn number(word: &[u8]) -> Option<u64>
 fn number_within(most: u64, word: &[u8]) -> Option<u64>
     ensures value { result ≡ number_within most word.now }
     ensures within { IfSome result (λ n. n ≤ most) }
+    ensures some { IfSome result (λ n. 1 ≤ n) }
 {
     if word.is_empty() || word.len() > 8 {
         return None;
@@ -62,6 +63,105 @@ fn limit_in(words: &[Text]) -> Option<u64>
             }
         }
         _ => None,
+    }
+}
+
+/// The workers in `--workers W` or `--workers=W`: from 1 to 32.
+fn workers_in(words: &[Text]) -> Option<u64>
+    ensures value { result ≡ workers_in words.now }
+    ensures within { IfSome result (λ n. n ≤ 32) }
+    ensures some { IfSome result (λ n. 1 ≤ n) }
+{
+    match words {
+        [word] => number_within(32, word.as_bytes().strip_prefix(b"--workers=")?),
+        [word, number] => {
+            if word.as_bytes() == b"--workers".as_slice() {
+                number_within(32, number.as_bytes())
+            } else {
+                None
+            }
+        }
+        _ => None,
+    }
+}
+
+/// Workers and a limit, where both are there.
+fn run_with(workers: Option<u64>, limit: Option<u64>) -> Option<RunOptions>
+    requires few { IfSome workers (λ n. n ≤ 32) }
+    requires some { IfSome workers (λ n. 1 ≤ n) }
+    requires limited { IfSome limit (λ n. n ≤ 10000000) }
+    ensures value { result ≡ run_with workers limit }
+    ensures limited { IfSome result IsLimitedRun }
+{
+    match (workers, limit) {
+        (Some(workers), Some(limit)) => Some(RunOptions {
+            workers: workers as u32,
+            limit,
+        }),
+        _ => None,
+    }
+}
+
+/// The first words, `count` of them or all, and the others.
+fn split(words: &[Text], count: usize) -> (&[Text], &[Text])
+    ensures { (result.0.now ≡ take count words.now) × (result.1.now ≡ drop count words.now) }
+{
+    match words.split_at_checked(count) {
+        Some(parts) => parts,
+        None => (words, &[]),
+    }
+}
+
+/// Workers in the first words, and a limit in the others.
+fn workers_first(count: usize, words: &[Text]) -> Option<RunOptions>
+    ensures value { result ≡ workers_first count words.now }
+    ensures limited { IfSome result IsLimitedRun }
+{
+    let (front, back) = split(words, count);
+    run_with(workers_in(front), limit_in(back))
+}
+
+/// A limit in the first words, and workers in the others.
+fn limit_first(count: usize, words: &[Text]) -> Option<RunOptions>
+    ensures value { result ≡ limit_first count words.now }
+    ensures limited { IfSome result IsLimitedRun }
+{
+    let (front, back) = split(words, count);
+    run_with(workers_in(back), limit_in(front))
+}
+
+/// The options of `run`, in any order.
+fn run_in(words: &[Text]) -> Option<RunOptions>
+    ensures value { result ≡ run_in words.now }
+    ensures limited { IfSome result IsLimitedRun }
+{
+    if let Some(options) = workers_first(1, words) {
+        return Some(options);
+    }
+    if let Some(options) = workers_first(2, words) {
+        return Some(options);
+    }
+    if let Some(options) = limit_first(1, words) {
+        return Some(options);
+    }
+    limit_first(2, words)
+}
+
+/// The options of `run`, where the words are it.
+#[tactic(auto, unfolding(crate::specs::Words::run_command))]
+pub fn run_command(words: &Items<Text>) -> Option<RunOptions>
+    ensures value { result ≡ run_command words.now }
+    ensures limited { IfSome result IsLimitedRun }
+{
+    match words.as_slice() {
+        [] => None,
+        [word, options @ ..] => {
+            if word.as_bytes() == b"run".as_slice() {
+                run_in(options)
+            } else {
+                None
+            }
+        }
     }
 }
 

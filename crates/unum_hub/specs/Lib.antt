@@ -1,1 +1,2 @@
+-- Definitions of objects and queue in one.
 pub mod Holding

@@ -1,3 +1,5 @@
+//! All bytes of a source, up to a bound.
+
 ghost use Rattle.std.specs.Prelude.{◌≡◌, ◌≤◌, OnOk, OnErr};
 ghost use Rattle.std.specs.Io.KnownBytes.{Appends};
 ghost use Rattle.unum_io.specs.Causes.{HasCause};

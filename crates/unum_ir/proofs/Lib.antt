@@ -1,3 +1,4 @@
+-- Lemmas on flat forms, and walks over them.
 pub mod TablesHold
 pub mod Retries
 pub mod Picks

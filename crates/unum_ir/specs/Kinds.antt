@@ -1,5 +1,5 @@
 -- What the kinds of nodes do, where an error of their own data flow is left to whoever calls.
--- Amazon States Language, "State Types".
+-- Source: Amazon States Language, "State Types".
 use Rattle.std.specs.Prelude.{◌≡◌, ℕ, ◌≤◌, ◌-◌, ◌^◌, min, List, ◌++◌, map, Option, Some, None, Result, Ok, Err, false}
 use Rattle.unum_json.specs.declared.value.Json as json
 use Rattle.unum_json.specs.Tree.{nodes}
@@ -9,7 +9,7 @@ use Rattle.asl_shape.specs.declared.trouble.ShapeError.TheVariants as error
 use Rattle.choice_rules.specs.Evaluating.{choose_from}
 use Rattle.asl_model.specs.Data.{Text, Json, Fault, Done, failure, or_path_failure, Shape, Rule, Path, Template, Made, named, prepared, handed_on, output, chosen, no_choice, and_then, parallel_inputs, map_inputs}
 use Rattle.asl_model.specs.Head.{CareOf, OnwardOf, Goes, Ends, BegunOf, On, Calls, Fans, result_or, leaves, picked, caught}
-use Rattle.unum_ir.specs.Flat.{NodeRule}
+use Rattle.unum_ir.specs.Flat.{NodeRule, Op, ParallelOp, MapOp}
 
 -- an error has the node's name as cause, and ends the scope
 abbrev pub or_failed : Text → Result (OnwardOf ℕ) Text → OnwardOf ℕ
@@ -58,6 +58,12 @@ succeeds shape raw = and_then (prepared shape raw) (λ x. and_then (output shape
 
 abbrev pub calls : Shape → (func : ℕ) → Json → Result (BegunOf ℕ ℕ) Text
 calls shape func raw = and_then (prepared shape raw) (λ x. Ok (Calls func x))
+
+-- the node is a Parallel or a Map
+abbrev pub IsFan : Op → Type 0
+IsFan (ParallelOp shape func next care scopes) = Unit {0}
+IsFan (MapOp shape func next care scope items selector limit) = Unit {0}
+IsFan _ = ⊥
 
 abbrev pub parallel_fans : Shape → ℕ → Json → Result (BegunOf ℕ ℕ) Text
 parallel_fans shape n raw = and_then (prepared shape raw) (λ x. and_then (parallel_inputs n x) (λ inputs. Ok (Fans inputs)))

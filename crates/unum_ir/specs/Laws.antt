@@ -11,7 +11,8 @@ HasNode ir scope label = (n : Node) × (node_at ir label ≡ Some n) × (n.scope
 
 -- where a node may go is a node of its scope
 abbrev pub NextsThere : Type 0
-NextsThere = (ir : Ir) → IsWellFormed ir → (label : ℕ) (n : Node) → node_at ir label ≡ Some n → (l : ℕ) → In l (labels (head_of n.op)) → HasNode ir n.scope l
+NextsThere = (ir : Ir) → IsWellFormed ir → (label : ℕ) (n : Node) → node_at ir label ≡ Some n → (l : ℕ) →
+    In l (labels (head_of n.op)) → HasNode ir n.scope l
 
 -- a scope starts at a node of its own
 abbrev pub StartsThere : Type 0
@@ -20,7 +21,8 @@ StartsThere = (ir : Ir) → IsWellFormed ir → (k : ℕ) (s : Scope) → slice_
 -- a function is the Enter of the scope with its number, or that of a Task's or a fan's node, which has its number
 abbrev pub IsFunc : Ir → (f : ℕ) → Func → Type 0
 IsFunc ir f (EnterFunc scope) = (scope ≡ f) × (f < length ir.scopes)
-IsFunc ir f (TaskFunc node resource) = (n : Node) × (node_at ir node ≡ Some n) × (op_tag node n.op ≡ Calls node ∷ []) × (func_of n.op ≡ Some f)
+IsFunc ir f (TaskFunc node resource) = (n : Node) × (node_at ir node ≡ Some n) × (op_tag node n.op ≡ Calls node ∷ [])
+    × (func_of n.op ≡ Some f)
 IsFunc ir f (JoinFunc node) = (n : Node) × (node_at ir node ≡ Some n) × (op_tag node n.op ≡ Joins node ∷ []) × (func_of n.op ≡ Some f)
 
 abbrev pub FuncsThere : Type 0
@@ -30,4 +32,5 @@ FuncsThere = (ir : Ir) → IsWellFormed ir → (f : ℕ) (x : Func) → slice_ge
 abbrev pub ScopesThere : Type 0
 ScopesThere =
     (ir : Ir) → IsWellFormed ir → (label : ℕ) (n : Node) → node_at ir label ≡ Some n →
-    (n.scope < length ir.scopes) × ((k : ℕ) → In k (scopes_of n.op) → (s : Scope) × (slice_get ir.scopes k ≡ Some s) × (s.parent ≡ func_of n.op))
+    (n.scope < length ir.scopes) × ((k : ℕ) → In k (scopes_of n.op) →
+    (s : Scope) × (slice_get ir.scopes k ≡ Some s) × (s.parent ≡ func_of n.op))

@@ -1,3 +1,4 @@
+-- Definitions of flat forms, and walks over them.
 pub mod Flat
 pub mod Calls
 pub mod WellFormed

@@ -7,7 +7,7 @@ ghost use Rattle.asl_model.specs.Data.{Text as ModelText};
 ghost use Rattle.asl_model.specs.Head.{OnwardOf, BegunOf, begins, result_or};
 ghost use Rattle.unum_ir.specs.Flat.{care_of, head_of};
 ghost use Rattle.unum_ir.specs.Given.{Gives};
-ghost use Rattle.unum_ir.specs.Kinds.{on_or_failed, begun_or_caught, passes, chooses_with, chooses, succeeds, calls, parallel_fans, map_fans};
+ghost use Rattle.unum_ir.specs.Kinds.{IsFan, on_or_failed, begun_or_caught, passes, chooses_with, chooses, succeeds, calls, parallel_fans, map_fans};
 ghost use Rattle.unum_ir.specs.Views.{onward_of, begun_of};
 
 use crate::care::catch;
@@ -175,6 +175,35 @@ fn fan_map(
     Ok(Begun::Fans(inputs?))
 }
 
+/// What the fan of this name does first with its raw data.
+fn begin_fan(alloc: Global, name: &Text, op: &Op, raw: &Json) -> Result<Begun, NoMemory>
+    requires { IsFan op.now }
+    ensures { IfOk result (λ b. begun_of b ≡ begins name.now (head_of op.now) raw.now) }
+{
+    match op {
+        Op::Parallel {
+            shape,
+            scopes,
+            care,
+            ..
+        } => {
+            let made = fan_parallel(alloc, shape, scopes.len(), raw);
+            or_catch(alloc, name, raw, care, made)
+        }
+        Op::Map {
+            shape,
+            items,
+            selector,
+            care,
+            ..
+        } => {
+            let made = fan_map(alloc, shape.shape(), items, selector, raw);
+            or_catch(alloc, name, raw, care, made)
+        }
+        _ => unreachable!(),
+    }
+}
+
 /// What a node does first with its raw data.
 ///
 /// The only error is want of memory.
@@ -212,24 +241,6 @@ pub fn begin(alloc: Global, node: &Node, raw: &Json) -> Result<Begun, NoMemory>
             let ended = failure(alloc, error.as_str(), cause.as_str())?;
             Ok(Begun::On(Onward::Ends(ended)))
         }
-        Op::Parallel {
-            shape,
-            scopes,
-            care,
-            ..
-        } => {
-            let made = fan_parallel(alloc, shape, scopes.len(), raw);
-            or_catch(alloc, name, raw, care, made)
-        }
-        Op::Map {
-            shape,
-            items,
-            selector,
-            care,
-            ..
-        } => {
-            let made = fan_map(alloc, shape.shape(), items, selector, raw);
-            or_catch(alloc, name, raw, care, made)
-        }
+        fan => begin_fan(alloc, name, fan, raw),
     }
 }

@@ -22,8 +22,11 @@ use unum_json::{Fault, Json, NoMemory, Outcome, Text, copy, copy_outcome};
 /// What of a node counts once it has an answer.
 #[derive(Drop)]
 pub struct Answered<'n> {
+    /// Its data flow.
     pub shape: &'n Shape,
+    /// The node that follows it. A missing one is the end of the scope.
     pub next: Option<u32>,
+    /// What it does about errors.
     pub care: &'n NodeCare,
     /// Whether a function answers.
     pub by_function: bool,

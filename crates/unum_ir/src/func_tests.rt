@@ -11,8 +11,11 @@ use crate::ir::{Func, Ir, Node, Op};
 /// A function without its resource.
 #[derive(Clone, Copy)]
 pub enum Tag {
+    /// The Enter of a scope.
     Enters { scope: usize },
+    /// The Task of a node.
     Calls { node: usize },
+    /// The Join of a fan's node.
     Joins { node: usize },
 }
 

@@ -53,7 +53,9 @@ impl StateError {
 /// Why a call gave no value: an error that the state's own scope knows, or want of memory.
 #[derive(Clone, Copy, Debug, PartialEq, Eq)]
 pub enum FlowError {
+    /// An error that has a name in the state's own scope.
     Named(StateError),
+    /// Memory ran out.
     NoMemory,
 }
 

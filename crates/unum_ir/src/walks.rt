@@ -26,11 +26,13 @@ const HOP_LIMIT: u32 = 2000;
 /// What comes of a node that is entered: another one is entered, or the scope stops.
 #[derive(Drop)]
 pub enum Step {
+    /// Another node is entered, with this data, and at a retry with the used list.
     Goes {
         next: u32,
         data: Json,
         again: Option<Used>,
     },
+    /// The scope stops here.
     Stops(Stop),
 }
 

@@ -1,3 +1,4 @@
+-- Lemmas on sessions that run: traces, events, the chooser and totals.
 pub mod Runs
 pub mod Bounds
 pub mod Costs
@@ -25,3 +26,4 @@ pub mod Dues
 pub mod DueNow
 pub mod Turning
 pub mod OneTrace
+pub mod Crosses

@@ -1,3 +1,4 @@
+-- Definitions of sessions that run: traces, events, the chooser and totals.
 pub mod Openings
 pub mod Traces
 pub mod OneStep

@@ -15,11 +15,13 @@ Turn tells seen answer after = (before : List ℕ) × IsPrefix seen before × Fo
 -- what comes after a pick: where it asks for a function, that is called and its answer is handed in, if memory lasts
 abbrev pub Goes : (List ℕ → Asked → Pick → List ℕ → Type 0) → Pick → List ℕ → Pick → List ℕ → Type 0
 Goes handed (Call kind input ticket) seen answer after =
-    ((answer ≡ NoMemory) × (after ≡ seen)) ⊎ Turn (λ before. handed before (record { kind = kind; input = input; ticket = ticket })) seen answer after
+    ((answer ≡ NoMemory) × (after ≡ seen))
+    ⊎ Turn (λ before. handed before (record { kind = kind; input = input; ticket = ticket })) seen answer after
 Goes handed pick seen answer after = (answer ≡ pick) × (after ≡ seen)
 
 -- a step of a worker with this attempt
-abbrev pub StepOf : (List ℕ → Option ℕ → Pick → List ℕ → Type 0) → (List ℕ → Asked → Pick → List ℕ → Type 0) → Option ℕ → List ℕ → Pick → List ℕ → Type 0
+abbrev pub StepOf : (List ℕ → Option ℕ → Pick → List ℕ → Type 0) → (List ℕ → Asked → Pick → List ℕ → Type 0) → Option ℕ →
+    List ℕ → Pick → List ℕ → Type 0
 StepOf picked handed mine seen answer after =
     (pick : Pick) × (between : List ℕ) × Turn (λ before. picked before mine) seen pick between × Goes handed pick between answer after
 
@@ -31,9 +33,12 @@ Leaves Idle mine = mine ≡ None
 Leaves _ mine = ⊥
 
 -- how far a worker can come from a log that its seat had seen: its attempt, and the log that its seat has seen then
-pub data Reached (picked : List ℕ → Option ℕ → Pick → List ℕ → Type 0) (handed : List ℕ → Asked → Pick → List ℕ → Type 0) (first : List ℕ) : Option ℕ → List ℕ → Type 0 where
+pub data Reached (picked : List ℕ → Option ℕ → Pick → List ℕ → Type 0) (handed : List ℕ → Asked → Pick → List ℕ → Type 0)
+    (first : List ℕ) : Option ℕ → List ℕ → Type 0 where
   start : Reached picked handed first None first
-  next : (mine : Option ℕ) (seen : List ℕ) (answer : Pick) (after : List ℕ) (left : Option ℕ) → Reached picked handed first mine seen → StepOf picked handed mine seen answer after → Leaves answer left → Reached picked handed first left after
+  next : (mine : Option ℕ) (seen : List ℕ) (answer : Pick) (after : List ℕ) (left : Option ℕ) →
+      Reached picked handed first mine seen → StepOf picked handed mine seen answer after → Leaves answer left →
+      Reached picked handed first left after
 
 -- what the last step of a worker answered
 abbrev pub last_of : WorkEnd → Pick
@@ -42,6 +47,7 @@ last_of end.Spent = Spent
 last_of end.NoMemory = NoMemory
 
 -- the steps of a worker from a log that its seat had seen to the end
-abbrev pub RunOf : (List ℕ → Option ℕ → Pick → List ℕ → Type 0) → (List ℕ → Asked → Pick → List ℕ → Type 0) → List ℕ → WorkEnd → List ℕ → Type 0
+abbrev pub RunOf : (List ℕ → Option ℕ → Pick → List ℕ → Type 0) → (List ℕ → Asked → Pick → List ℕ → Type 0) → List ℕ → WorkEnd →
+    List ℕ → Type 0
 RunOf picked handed first ended after =
     (mine : Option ℕ) × (seen : List ℕ) × Reached picked handed first mine seen × StepOf picked handed mine seen (last_of ended) after

@@ -1,9 +1,9 @@
 //! The worker's loop.
-ghost use Rattle.std.specs.Prelude.{◌≡◌, IfOk};
+ghost use Rattle.std.specs.Prelude.{◌≡◌, IfErr, IfOk};
 ghost use mathlib.Core.List.{IsPrefix};
 ghost use Rattle.seat_lock.specs.Locks.{IsOf};
 ghost use Rattle.worker_gate.specs.Picks.{OnIdle, OnSpent, IsDone};
-ghost use Rattle.worker_gate.specs.Turns.{StepOf, RunOf};
+ghost use Rattle.worker_gate.specs.Turns.{StepOf, Leaves, RunOf, last_of};
 
 use crate::crew::{Crew, Shift};
 use crate::engine::Engine;
@@ -101,6 +101,38 @@ fn step<'a, E: Engine, F: Functions, G: Gate, R: Wait>(
     }
 }
 
+/// What follows a step: the attempt and the shift with which the worker goes on, or why it stops.
+fn follow<'a, R: Wait>(
+    rt: &R,
+    crew: &'a Crew,
+    pick: Pick,
+    shift: Shift<'a>,
+) -> Result<(Option<u32>, Shift<'a>), WorkEnd>
+    requires { IsDone pick }
+    ensures ok { IfOk result (λ next. Leaves pick next.0) }
+    ensures err { IfErr result (λ ended. pick ≡ last_of ended) }
+{
+    match pick {
+        Pick::Mine(attempt) => Ok((Some(attempt), crew.go_on(rt, shift))),
+        Pick::Free => Ok((None, crew.go_on_free(rt, shift))),
+        Pick::Idle => {
+            let Some(next) = crew.rest(rt, shift) else {
+                return Err(WorkEnd::Idle);
+            };
+            Ok((None, next))
+        }
+        Pick::Spent => {
+            crew.end(shift);
+            Err(WorkEnd::Spent)
+        }
+        Pick::NoMemory => {
+            crew.end(shift);
+            Err(WorkEnd::NoMemory)
+        }
+        Pick::Call { .. } => unreachable!(),
+    }
+}
+
 /// The work of one of a crew: see [`work`].
 pub(crate) fn work_in<E: Engine, F: Functions, G: Gate, R: Wait>(
     rt: &R,
@@ -122,32 +154,13 @@ pub(crate) fn work_in<E: Engine, F: Functions, G: Gate, R: Wait>(
     let mut shift = crew.begin(rt);
     for _ in rt.forever() {
         let (pick, after) = step(rt, &bench, &mut seat, mine, shift);
-        let ended = match pick {
-            Pick::Mine(attempt) => {
-                mine = Some(attempt);
-                shift = crew.go_on(rt, after);
-                continue;
-            }
-            Pick::Free => {
-                mine = None;
-                shift = crew.go_on_free(rt, after);
-                continue;
-            }
-            Pick::Idle => {
-                let Some(next) = crew.rest(rt, after) else {
-                    let ended = WorkEnd::Idle;
-                    return Worked { seat, ended };
-                };
-                mine = None;
+        match follow(rt, crew, pick, after) {
+            Ok((left, next)) => {
+                mine = left;
                 shift = next;
-                continue;
             }
-            Pick::Spent => WorkEnd::Spent,
-            Pick::NoMemory => WorkEnd::NoMemory,
-            Pick::Call { .. } => unreachable!(),
-        };
-        crew.end(after);
-        return Worked { seat, ended };
+            Err(ended) => return Worked { seat, ended },
+        }
     }
     unreachable!()
 }

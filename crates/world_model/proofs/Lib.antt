@@ -1,3 +1,4 @@
+-- Lemmas on worlds: programs, objects, the queue, events and runs.
 pub mod Gets
 pub mod Queues
 pub mod Mapping

@@ -1,3 +1,4 @@
+-- Definitions of worlds: programs, objects, the queue, events and runs.
 pub mod AnyCode
 pub mod Sites
 pub mod Operations

@@ -1,3 +1,4 @@
+-- Lemmas on the ranges of names and numbers in worlds of flat code.
 pub mod Trails
 pub mod Nexts
 pub mod Absorbs

@@ -84,7 +84,8 @@ pub record IsAttempt {S : Type 0} (codes : Codes S) (invs : List (Invocation S))
 -- ---------------------------------------------------------------- worlds
 
 -- each invocation, each live object and each attempt is in range, and the queue knows of each invocation and of no other
-pub record IsInRange {M S : Type 0} (sessions : ℕ) (roles : (session : ℕ) → S → Option Role) (codes : Codes S) (w : World M S (List Bool)) : Type 0 where
+pub record IsInRange {M S : Type 0} (sessions : ℕ) (roles : (session : ℕ) → S → Option Role) (codes : Codes S)
+    (w : World M S (List Bool)) : Type 0 where
   pub invs : (k : ℕ) (i : Invocation S) → slice_get w.invs k ≡ Some i → IsInvocation sessions roles i
   pub states : length w.states ≡ length w.invs
   pub objects : (o : Obj) (h : Held (List Bool)) → w.objects o ≡ Live h → IsObject o × IsHeldBy o h

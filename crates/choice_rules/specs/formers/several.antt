@@ -1,1 +1,2 @@
+-- `NonEmpty` as a type that may hold the type that holds it.
 pub mod NonEmpty

@@ -94,7 +94,8 @@ pub record QueueIsRight {M S B : Type 0} (bits : Bitmaps B) (codes : Codes S) (o
   pub tombstones :
       (a : ℕ) (t : Attempt) (i : Invocation S) → slice_get w.atts a ≡ Some t → slice_get w.invs t.inv ≡ Some i →
       IsAtOwnCheck t.phase → w.objects (Check i.name) ≡ Tombstone →
-      (slice_get (effect bits codes w (Step a)).atts a ≡ Some (acking_attempt t)) × (next_of {B = B} (code_of codes i) i (Acking false) ≡ Do Ack)
+      (slice_get (effect bits codes w (Step a)).atts a ≡ Some (acking_attempt t))
+      × (next_of {B = B} (code_of codes i) i (Acking false) ≡ Do Ack)
 
 -- After every list of events that may happen in turn, that is so.
 abbrev pub EveryQueueIsRight : (M S B : Type 0) → Type 0

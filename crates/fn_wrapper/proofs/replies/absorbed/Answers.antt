@@ -2,15 +2,8 @@ use Rattle.std.proofs.Common.{◌≡◌, subst}
 use Rattle.std.specs.Prelude.{IfOk}
 use Rattle.world_model.specs.AnyCode.Program.{Phase, after_read}
 use Rattle.continuation_gen.specs.Coded.{code_of_ir}
-use Rattle.fn_wrapper.proofs.Acted.{acted_is, read_is}
+use Rattle.fn_wrapper.proofs.Acted.{read_is}
 use Rattle.fn_wrapper.proofs.replies.absorbed.Goals as goal
-
-pub returns-in-Acting-clause-ok : goal.returns-in-Acting-clause-ok
-returns-in-Acting-clause-ok c =
-    acted_is (code_of_ir c.args.instance.ir.now) c.args.instance.invocation.now c.args.instance.ticket c.args.phase c.in-Acting.kept
-    c.in-Acting.done
-    c.args.acts c.args.reply c.acted.result c.acted.ensures c.in-Acting.is
-    (c.requires.acts c.in-Acting.kept c.in-Acting.done c.in-Acting.is)
 
 pub returns-in-Reading-clause-ok : goal.returns-in-Reading-clause-ok
 returns-in-Reading-clause-ok c =

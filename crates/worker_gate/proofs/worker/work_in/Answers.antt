@@ -6,23 +6,9 @@ use Rattle.worker_gate.proofs.worker.work_in.Goals as goal
 pub loop-init : goal.loop-init
 loop-init g c = record { own = (c.requires, refl); seen = prefix_refl _; turns = start }
 
-pub loop-preserved-in-Mine : goal.loop-preserved-in-Mine
-loop-preserved-in-Mine g c = record {
-  own = (c.step-pick.ensures.own.0, c.step-pick.ensures.own.1 ∙ c.loop.invariant.own.1);
-  seen = prefix_trans _ _ _ c.loop.invariant.seen c.step-pick.ensures.seen;
-  turns = next _ _ _ _ _ c.loop.invariant.turns c.step-pick.ensures.turns (rw c.in-Mine.is refl);
-}
-
-pub loop-preserved-in-Free : goal.loop-preserved-in-Free
-loop-preserved-in-Free g c = record {
-  own = (c.step-pick.ensures.own.0, c.step-pick.ensures.own.1 ∙ c.loop.invariant.own.1);
-  seen = prefix_trans _ _ _ c.loop.invariant.seen c.step-pick.ensures.seen;
-  turns = next _ _ _ _ _ c.loop.invariant.turns c.step-pick.ensures.turns (rw c.in-Free.is refl);
-}
-
 pub loop-preserved : goal.loop-preserved
 loop-preserved g c = record {
   own = (c.step-pick.ensures.own.0, c.step-pick.ensures.own.1 ∙ c.loop.invariant.own.1);
   seen = prefix_trans _ _ _ c.loop.invariant.seen c.step-pick.ensures.seen;
-  turns = next _ _ _ _ _ c.loop.invariant.turns c.step-pick.ensures.turns (rw c.in-Idle.is refl);
+  turns = next _ _ _ _ _ c.loop.invariant.turns c.step-pick.ensures.turns c.in-Ok.ensures.ok;
 }
