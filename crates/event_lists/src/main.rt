@@ -1,204 +1,98 @@
-//! Runs worlds through lists of events. A line of the input is one of these:
+//! Runs worlds, event by event, and by workers. Reads cases from standard input, one a line.
 //!
-//! - `bundle JSON` gives a bundle, and `limit N` how many events the worlds that follow may have: 1,000 where no line says it;
-//! - `case NAME` names what follows, and is printed;
-//! - `events LIST` makes each event of a list in a new world of the last bundle, and prints what each comes to with the totals after
-//!   it, and at the end the report;
+//! - `bundle JSON` gives the bundle of the cases after it, and prints nothing;
+//! - `case NAME`, and each line that begins with `#`, names what follows, and is printed.
+//!
+//! Lists of events, each in a new world of the bundle:
+//!
+//! - `limit N` says how many events the worlds of the lists after it may have: 1,000 where no line says it. It prints nothing;
+//! - `events LIST` makes each event of a list, and prints the line, then what each event comes to with the totals after it, and at
+//!   the end the report;
 //! - `run LIST` makes the events until one is refused, and prints the length of the history, the report, the number of
 //!   invocations, and the refusal.
 //!
 //! In a list there are blanks between the events, each a letter (D for Deliver, C for Crash, S for Step, A for Answer, G for
 //! GiveUp) and a number, and where it is to be made several times `*` and how often.
+//!
+//! Workers, and gates that watch them. The bundle may be any bytes, and the words are those of the command line, as
+//! `run --workers 2`. Each line is printed, and after it:
+//!
+//! - `workers WORDS`: the status of these words, what was written, and what is on the desk;
+//! - `ends N WORDS`: N runs with these words, and of each how its sessions ended, whether all ended alike, and how many checkpoints won;
+//! - `noted WORDS`: whether the gate was told of each call before and after it, once for each ticket, and whether these tickets are
+//!   those of the checkpoints of Tasks;
+//! - `held WORDS`: the same with a gate that holds the first call until another is answered;
+//! - `slow WORDS`: how the sessions ended of a run in which each call takes a millisecond longer.
 #![tactic(auto)]
 
-use session_report::report;
-use std::alloc::Global;
+mod fault;
+mod gates;
+mod lists;
+mod workers;
+
+use fault::Fault;
+use lists::{Telling, run_list};
 use std::io;
-use std::io::Print;
-use unum_cli::{open_bundle, read_bundle};
-use unum_world::{ApplyError, World};
-use world_types::Event;
+use std::sync::Wait;
+use std::thread::Threads;
+use std::time::Clock;
+use workers::{ends, held, noted, run, slow};
 
 /// How many events a world may have where no line says it.
 const LIMIT: u64 = 1_000;
 
-/// The event of a word, as `D0`.
-fn event(word: &str) -> Option<Event> {
-    let (letter, number) = word.split_at_checked(1)?;
-    let number = number.parse().ok()?;
-    match letter {
-        "D" => Some(Event::Deliver(number)),
-        "C" => Some(Event::Crash(number)),
-        "S" => Some(Event::Step(number)),
-        "A" => Some(Event::Answer(number)),
-        "G" => Some(Event::GiveUp(number)),
-        _ => None,
-    }
+/// The word that a line begins with, and the rest.
+fn split_word(line: &str) -> (&str, &str) {
+    line.split_once(" ").unwrap_or((line, ""))
 }
 
-/// The name of an event, and how often it is to be made.
-fn times(word: &str) -> Option<(&str, u32)> {
-    match word.split_once('*') {
-        Some((name, times)) => Some((name, times.parse().ok()?)),
-        None => Some((word, 1)),
-    }
-}
-
-/// Prints what became of an event.
-fn print_outcome(rt: &impl Print, name: &str, made: Result<(), ApplyError>) -> io::Result<()> {
-    match made {
-        Ok(()) => println!(rt; "{name} made"),
-        Err(ApplyError::NotEnabled { event: _ }) => println!(rt; "{name} NotEnabled"),
-        Err(ApplyError::Spent { len }) => println!(rt; "{name} Spent {len}"),
-        Err(ApplyError::NoMemory) => println!(rt; "{name} NoMemory"),
-    }
-}
-
-/// The lines of a world's report, or its totals alone.
-fn print_report(rt: &impl Print, alloc: Global, world: &World, is_whole: bool) -> io::Result<()> {
-    let Ok(text) = report(alloc, world) else {
-        return println!(rt; "NoMemory");
-    };
-    for line in text.as_str().lines() {
-        if is_whole || line.starts_with("totals") {
-            println!(rt; "{line}")?;
-        }
-    }
-    Ok(())
-}
-
-/// Makes an event once or several times, and prints what each time comes to.
-fn tell_event(rt: &impl Print, alloc: Global, world: &mut World, word: &str) -> io::Result<()> {
-    let Some((name, times)) = times(word) else {
-        return println!(rt; "no event");
-    };
-    let Some(event) = event(name) else {
-        return println!(rt; "no event");
-    };
-    for _ in 0..times {
-        print_outcome(rt, name, world.apply(event))?;
-        print_report(rt, alloc, world, false)?;
-    }
-    Ok(())
-}
-
-/// Makes each event of a list.
-fn tell_events(rt: &impl Print, alloc: Global, world: &mut World, list: &str) -> io::Result<()> {
-    for word in list.split_whitespace() {
-        tell_event(rt, alloc, world, word)?;
-    }
-    print_report(rt, alloc, world, true)
-}
-
-/// Makes an event so often, until it is refused.
-fn make(alloc: Global, world: &mut World, event: Event, times: u32) -> Result<(), ApplyError> {
-    for _ in 0..times {
-        world.apply(event)?;
-    }
-    Ok(())
-}
-
-/// Why a list of events was not made to its end.
-#[derive(Clone, Copy)]
-enum Stopped<'l> {
-    /// A word is no event.
-    NoEvent,
-    /// The event of that name was refused.
-    Refused(&'l str, ApplyError),
-}
-
-/// Makes the events of a list until one is refused.
-fn make_all<'l>(alloc: Global, world: &mut World, list: &'l str) -> Result<(), Stopped<'l>> {
-    for word in list.split_whitespace() {
-        let Some((name, times)) = times(word) else {
-            return Err(Stopped::NoEvent);
-        };
-        let Some(event) = event(name) else {
-            return Err(Stopped::NoEvent);
-        };
-        if let Err(refusal) = make(alloc, world, event, times) {
-            return Err(Stopped::Refused(name, refusal));
-        }
-    }
-    Ok(())
-}
-
-/// Makes the events of a list until one is refused, and prints what the world is then.
-fn run(rt: &impl Print, alloc: Global, world: &mut World, list: &str) -> io::Result<()> {
-    let made = make_all(alloc, world, list);
-    println!(rt; "history {}", world.length())?;
-    print_report(rt, alloc, world, true)?;
-    println!(rt; "invocations {}", world.totals().invocations)?;
-    match made {
-        Ok(()) => Ok(()),
-        Err(Stopped::NoEvent) => println!(rt; "no event"),
-        Err(Stopped::Refused(name, refusal)) => {
-            print!(rt; "event {} ", world.length())?;
-            print_outcome(rt, name, Err(refusal))
-        }
-    }
-}
-
-/// A new world of a bundle, or what is to be printed.
-fn open(alloc: Global, bundle: &str, limit: u64) -> Result<World, &'static str> {
-    if limit > 10_000_000 {
-        return Err("no limit");
-    }
-    let Ok(bundle) = read_bundle(alloc, bundle.as_bytes()) else {
-        return Err("refused");
-    };
-    let Ok(opening) = open_bundle(alloc, bundle) else {
-        return Err("NoMemory");
-    };
-    World::open(alloc, opening, limit).map_err(|_| "NoMemory")
-}
-
-/// What is done with a list.
-#[derive(Clone, Copy)]
-enum Telling {
-    /// Each event is told.
-    Events,
-    /// The end is told.
-    End,
-}
-
-/// Runs a list of events in a new world of a bundle.
-fn run_list(
-    rt: &impl Print,
-    alloc: Global,
-    bundle: &str,
-    limit: u64,
-    telling: Telling,
-    list: &str,
-) -> io::Result<()> {
-    match open(alloc, bundle, limit) {
-        Ok(mut world) => match telling {
-            Telling::Events => tell_events(rt, alloc, &mut world, list),
-            Telling::End => run(rt, alloc, &mut world, list),
-        },
-        Err(told) => println!(rt; "{told}"),
+/// Writes what a case of workers comes to.
+fn answer<R: Threads + Wait + Clock + AllocGlobal + Sync>(
+    rt: &R,
+    out: &mut String,
+    bytes: &[u8],
+    line: &str,
+) -> Result<(), Fault> {
+    let (word, rest) = split_word(line);
+    match word {
+        "workers" => run(rt, out, bytes, rest),
+        "ends" => ends(rt, out, bytes, rest),
+        "noted" => noted(rt, out, bytes, rest),
+        "held" => held(rt, out, bytes, rest),
+        "slow" => slow(rt, out, bytes, rest),
+        "case" | "#" => Ok(()),
+        _ => Err(Fault::NotRead),
     }
 }
 
 fn main(rt: HostRuntime) -> io::Result<()> {
     let alloc = rt.alloc();
     let mut bundle = String::new(alloc);
+    let mut out = String::new(alloc);
     let mut limit = LIMIT;
     for line in rt.lines(alloc) {
         let line = line?;
         let line = line.as_str();
-        if let Some(text) = line.strip_prefix("bundle ") {
-            bundle.clear();
-            bundle.push_str(text)?;
-        } else if let Some(number) = line.strip_prefix("limit ") {
-            limit = number.parse().unwrap_or(LIMIT);
-        } else if let Some(list) = line.strip_prefix("events ") {
-            println!(rt; "{line}")?;
-            run_list(&rt, alloc, bundle.as_str(), limit, Telling::Events, list)?;
-        } else if let Some(list) = line.strip_prefix("run ") {
-            run_list(&rt, alloc, bundle.as_str(), limit, Telling::End, list)?;
-        } else {
-            println!(rt; "{line}")?;
+        let (word, rest) = split_word(line);
+        match word {
+            "bundle" => {
+                bundle.clear();
+                bundle.push_str(rest)?;
+            }
+            "limit" => limit = rest.parse().unwrap_or(LIMIT),
+            "events" => {
+                println!(rt; "{line}")?;
+                run_list(&rt, alloc, bundle.as_str(), limit, Telling::Events, rest)?;
+            }
+            "run" => run_list(&rt, alloc, bundle.as_str(), limit, Telling::End, rest)?,
+            _ => {
+                out.clear();
+                let answered = answer(&rt, &mut out, bundle.as_bytes(), line);
+                print!(rt; "{line}\n{}", out.as_str())?;
+                if let Err(fault) = answered {
+                    println!(rt; "{}", fault.told())?;
+                }
+            }
         }
     }
     Ok(())
