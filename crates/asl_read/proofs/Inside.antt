@@ -1,10 +1,7 @@
 -- What stands at a key of an object is read as the part of it that it is, and is less deep.
-use Rattle.std.proofs.Common.{◌≡◌, ℕ, ◌<◌, ◌≤◌, suc, max, List, [], ◌∷◌, ◌++◌, map, get_or, length, append_assoc, zero, Option, Some, None, codes, refl, sym, ap, ◌∙◌, subst, arith, string_bytes, String, Global, Vec, nat_cmp, Less, Equal, Greater}
+use Rattle.std.proofs.Common.{◌≡◌, ℕ, ◌<◌, ◌≤◌, suc, max, List, [], ◌∷◌, ◌++◌, map, get_or, length, append_assoc, zero, Option, Some, None, codes, refl, sym, ap, ◌∙◌, subst, arith, Global, Vec, nat_cmp, Less, Equal, Greater}
 use Rattle.std.proofs.lemmas.List.{map-append}
-use Rattle.std.specs.List.{AllByRecursion}
-use Rattle.std.specs.List.Sorted.{IsStrictlySortedBy}
 use Rattle.std.specs.Map.{keys_of}
-use Rattle.std.specs.String.{string_cmp}
 use Rattle.unum_json.specs.Keys.{IsRising}
 use Rattle.std.specs.Prelude.{option_map}
 use Rattle.std.specs.Ordering.{match_ordering}
@@ -12,10 +9,9 @@ use Rattle.std.specs.declared.cmp.Ordering.{Ordering}
 use Rattle.std.specs.Cmp.Lexicographic.{slice_cmp}
 use Rattle.serde_json.specs.Data.{Data, null, boolean, number, string, array, object, Members, no_members, member, depth, items_depth, members_depth}
 use Rattle.serde_json.specs.Find.{get, get_member}
-use Rattle.serde_json.specs.View.{view, items_view, members_view}
-use Rattle.serde_json.specs.declared.value.Value.{Value, Array, Object}
-use Rattle.serde_json.proofs.Views.{view-Array, view-Object}
-use Rattle.std.specs.BTreeMap.{BTreeMap}
+use Rattle.unum_json.specs.Parsed.{view, items_view, members_view}
+use Rattle.unum_json.specs.declared.parsed.Value.{Value, Array, Object}
+use Rattle.unum_json.proofs.Views.{view-Array, view-Object}
 use Rattle.choice_rules.specs.declared.rule.Rule.{Rule}
 use Rattle.asl_model.specs.declared.machine.Block.{Block}
 use Rattle.asl_model.specs.declared.machine.State.{State}
@@ -141,43 +137,30 @@ rules_in vs = map (λ (r : Ruled). r.rule) (ruled_items (items_view vs))
 abbrev pub blocks_in : List Value → List Block
 blocks_in vs = map (λ (b : Blocked). b.block) (blocked_items (items_view vs))
 
--- the pairs of a map, without where they lie in memory
+-- the pairs of an object
 abbrev pub Entries : Type 0
-Entries = List (String Global × Value)
-
-abbrev pub names : Entries → List Key
-names es = map (λ e. string_bytes e.0) es
+Entries = List (Key × Value)
 
 -- the states that members spell
 abbrev pub states_in : Entries → List (Key × State)
 states_in es = map (λ (m : Key × Blocked). (m.0, m.1.state)) (blocked_members (members_view es))
 
-all_names : (k : String Global) (es : Entries) → AllByRecursion (λ y. string_cmp k y ≡ Less) (keys_of es) → AllByRecursion (λ y. slice_cmp nat_cmp (string_bytes k) y ≡ Less) (names es)
-all_names k [] h = tt
-all_names k (e ∷ es) h = (h.0, all_names k es h.1)
-
--- the keys of a map rise
-pub rising_names : (es : Entries) → IsStrictlySortedBy string_cmp (keys_of es) → IsRising (names es)
-unfolding IsStrictlySortedBy
-rising_names [] h = tt
-rising_names (e ∷ es) h = (all_names e.0 es h.0, rising_names es h.1)
-
 -- the keys so far, and those that are left
-pub rising_more : (found : List (Key × State)) (rest left : Entries) (e : String Global × Value) (k : Key) (x : State) → IsRising (keys_of found ++ names rest) → rest ≡ e ∷ left → k ≡ string_bytes e.0
-    → IsRising (keys_of (found ++ (k, x) ∷ []) ++ names left)
+pub rising_more : (found : List (Key × State)) (rest left : Entries) (e : Key × Value) (k : Key) (x : State) → IsRising (keys_of found ++ keys_of rest) → rest ≡ e ∷ left → k ≡ e.0
+    → IsRising (keys_of (found ++ (k, x) ∷ []) ++ keys_of left)
 rising_more found rest left e k x h is key =
-    let one : keys_of found ++ names (e ∷ left) ≡ keys_of (found ++ (k, x) ∷ []) ++ names left
-    = sym (append_assoc (keys_of found) (string_bytes e.0 ∷ []) (names left)) ∙ ap (λ n. (keys_of found ++ n ∷ []) ++ names left) (sym key)
-    ∙ ap (λ ks. ks ++ names left) (sym (map-append (λ (f : Key × State). f.0) found ((k, x) ∷ []))) in
-    subst IsRising (ap (λ es. keys_of found ++ names es) is ∙ one) h
+    let one : keys_of found ++ keys_of (e ∷ left) ≡ keys_of (found ++ (k, x) ∷ []) ++ keys_of left
+    = sym (append_assoc (keys_of found) (e.0 ∷ []) (keys_of left)) ∙ ap (λ n. (keys_of found ++ n ∷ []) ++ keys_of left) (sym key)
+    ∙ ap (λ ks. ks ++ keys_of left) (sym (map-append (λ (f : Key × State). f.0) found ((k, x) ∷ []))) in
+    subst IsRising (ap (λ es. keys_of found ++ keys_of es) is ∙ one) h
 
 -- the states of an object, none of which was read yet
-pub states_start : (d : Value) (m : BTreeMap (String Global) Value) (es : Entries) (found : List (Key × State)) → d ≡ Object m → es ≡ m.entries → found ≡ [] → states_of (view d) ≡ found ++ states_in es
+pub states_start : (d : Value) (m es : Entries) (found : List (Key × State)) → d ≡ Object m → es ≡ m → found ≡ [] → states_of (view d) ≡ found ++ states_in es
 states_start d m es found is same none =
     ap (λ x. states_of (view x)) is ∙ ap states_of (view-Object m) ∙ ap states_in (sym same) ∙ ap (λ xs. xs ++ states_in es) (sym none)
 
-pub rising_start : (all rest : Entries) (found : List (Key × State)) → found ≡ [] → rest ≡ all → IsStrictlySortedBy string_cmp (keys_of all) → IsRising (keys_of found ++ names rest)
-rising_start all rest found e f h = subst IsRising (ap names (sym f) ∙ ap (λ xs. keys_of xs ++ names rest) (sym e)) (rising_names all h)
+pub rising_start : (all rest : Entries) (found : List (Key × State)) → found ≡ [] → rest ≡ all → IsRising (keys_of all) → IsRising (keys_of found ++ keys_of rest)
+rising_start all rest found e f h = subst IsRising (ap keys_of (sym f) ∙ ap (λ xs. keys_of xs ++ keys_of rest) (sym e)) h
 
 -- ---------------------------------------------------------------- depth of what the code takes out
 
@@ -188,13 +171,13 @@ array_item d items vs i v is same lt at =
     = ap (λ x. depth (view x)) is ∙ ap depth (view-Array items) ∙ ap (λ xs. suc (items_depth (items_view xs))) (sym same) in
     omega arith
 
-pub members_low : (d : Value) (m : BTreeMap (String Global) Value) (es : Entries) → d ≡ Object m → es ≡ m.entries → members_depth (members_view es) < depth (view d)
+pub members_low : (d : Value) (m es : Entries) → d ≡ Object m → es ≡ m → members_depth (members_view es) < depth (view d)
 members_low d m es is same =
     let whole : depth (view d) ≡ suc (members_depth (members_view es))
     = ap (λ x. depth (view x)) is ∙ ap depth (view-Object m) ∙ ap (λ xs. suc (members_depth (members_view xs))) (sym same) in
     omega arith
 
-pub member_low : (n : ℕ) (rest left : Entries) (e : String Global × Value) → rest ≡ e ∷ left → members_depth (members_view rest) < n → depth (view e.1) < n
+pub member_low : (n : ℕ) (rest left : Entries) (e : Key × Value) → rest ≡ e ∷ left → members_depth (members_view rest) < n → depth (view e.1) < n
 member_low n rest left e is low =
     let whole : members_depth (members_view rest) ≡ max (depth (view e.1)) (members_depth (members_view left)) = ap (λ es. members_depth (members_view es)) is in
     omega arith

@@ -2,8 +2,8 @@
 use Rattle.std.proofs.Common.{◌≡◌, ◌==◌, List, [], ◌∷◌, length, map, Some, refl, ap}
 use Rattle.std.proofs.Math.Dec.{eqb-suc-zero}
 use Rattle.serde_json.specs.Data.{array}
-use Rattle.serde_json.specs.View.{view, items_view}
-use Rattle.serde_json.specs.declared.value.Value.{Value}
+use Rattle.unum_json.specs.Parsed.{view, items_view}
+use Rattle.unum_json.specs.declared.parsed.Value.{Value}
 use Rattle.asl_read.specs.Choices.{is_empty_array}
 use Rattle.asl_read.specs.Parts.{items_in}
 

@@ -1,7 +1,7 @@
 //! The first walk: which rule a value breaks first.
 
 ghost use Rattle.std.specs.Prelude.{◌≡◌, map};
-ghost use Rattle.serde_json.specs.View.{view, items_view, members_view};
+ghost use Rattle.unum_json.specs.Parsed.{view, items_view, members_view};
 ghost use Rattle.unum_json.specs.Keys.{find_key};
 ghost use Rattle.asl_read.specs.Tables.{others, state_types};
 ghost use Rattle.asl_read.specs.Faults.{named_type, typed, form_of, rule_faults, field_faults, item_how, member_how, value_faults, item_faults, member_faults};
@@ -13,8 +13,8 @@ use crate::malformed::is_malformed;
 use crate::objects::{LeftOut, check_keys, check_required, how_of};
 use crate::rows::rows;
 use crate::table::{How, Kind, StateType};
-use serde_json::{Map, Value};
 use std::alloc::Global;
+use unum_json::{Fields, Value};
 
 /// What an object is read as.
 #[derive(Clone, Copy)]
@@ -191,13 +191,14 @@ fn check_items(alloc: Global, how: How, items: &Vec<Value>) -> Result<(), ReadFa
 fn check_members(
     alloc: Global,
     kind: Option<Kind>,
-    members: &Map<String, Value>,
+    members: &Fields<Value>,
 ) -> Result<(), ReadFault>
-    ensures { Checks result (member_faults kind (members_view members.now.entries)) }
+    ensures { Checks result (member_faults kind (members_view members.now)) }
 {
-    for (key, member) in members.iter() {
-        let how = member_how(kind, key.as_str());
-        under_key(alloc, key.as_str(), check(alloc, how, member))?;
+    for member in members.as_slice() {
+        let key = member.0.as_str();
+        let how = member_how(kind, key);
+        under_key(alloc, key, check(alloc, how, &member.1))?;
     }
     Ok(())
 }

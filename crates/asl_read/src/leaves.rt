@@ -2,7 +2,7 @@
 
 ghost use Rattle.std.specs.Prelude.{[]};
 ghost use Rattle.std.specs.Str.{bytes_eq};
-ghost use Rattle.serde_json.specs.View.{view};
+ghost use Rattle.unum_json.specs.Parsed.{view};
 ghost use Rattle.unum_json.specs.Whole.{of_data};
 ghost use Rattle.asl_paths.specs.Templates.{template_of};
 ghost use Rattle.asl_read.specs.Objects.{here, unless};
@@ -12,9 +12,8 @@ ghost use Rattle.asl_read.specs.Checks.{Checks};
 use crate::fault::{LRule, ReadFault, refused};
 use crate::table::How;
 use asl_paths::{Path, PathError, Template, TemplateError};
-use serde_json::Value;
 use std::alloc::Global;
-use unum_json::{Json, WholeError, to_json};
+use unum_json::{Json, Value, WholeError, to_json};
 
 /// A fault unless the test holds.
 fn unless(alloc: Global, holds: bool, rule: LRule) -> Result<(), ReadFault>
@@ -125,13 +124,10 @@ pub(crate) fn check_leaf(alloc: Global, how: How, value: &Value) -> Result<(), R
         How::Language => check_named(alloc, value, "JSONPath"),
         How::Mode => check_named(alloc, value, "INLINE"),
         How::Path => check_path(alloc, value),
-        How::PathOrNull => {
-            if value.is_null() {
-                Ok(())
-            } else {
-                check_path(alloc, value)
-            }
-        }
+        How::PathOrNull => match value {
+            Value::Null => Ok(()),
+            _ => check_path(alloc, value),
+        },
         How::Template => check_template(alloc, value, false),
         How::ItemTemplate => check_template(alloc, value, true),
         How::Texts | How::Object(_) | How::Each(_) | How::State | How::States => {

@@ -3,7 +3,7 @@
 ghost use Rattle.std.specs.Prelude.{◌≡◌, [], ◌∷◌, ◌++◌, IfOk, OnOk, None, Some, codes, option_map, unwrap_or};
 ghost use Rattle.std.specs.Map.{keys_of};
 ghost use Rattle.unum_json.specs.Keys.{IsRising};
-ghost use Rattle.serde_json.specs.View.{view};
+ghost use Rattle.unum_json.specs.Parsed.{view};
 ghost use Rattle.serde_json.specs.Find.{get};
 ghost use Rattle.asl_read.specs.Objects.{under};
 ghost use Rattle.asl_read.specs.Faults.{machine_faults};
@@ -21,10 +21,9 @@ use crate::shapes::{
 use crate::table::{How, Kind, StateType};
 use crate::values::{json_of, number_in, text_if, text_in};
 use asl_model::{Block, Machine, State};
-use serde_json::Value;
 use sqlite_items::Boxed;
 use std::alloc::Global;
-use unum_json::{Fields, Items, Json, NoMemory, Text};
+use unum_json::{Fields, Items, Json, NoMemory, Text, Value};
 
 fn task(alloc: Global, value: &Value) -> Result<State, NoMemory>
     ensures { IfOk result (λ s. s ≡ state_by StateType.Task (view value.now) None None) }
@@ -237,9 +236,9 @@ fn states_of(alloc: Global, value: &Value) -> Result<Fields<State>, NoMemory>
     let Value::Object(members) = value else {
         return Ok(states);
     };
-    for (key, member) in members.iter() {
-        let state = state_of(alloc, member)?;
-        push_named(alloc, &mut states, key.as_str(), state)?;
+    for member in members.as_slice() {
+        let state = state_of(alloc, &member.1)?;
+        push_named(alloc, &mut states, member.0.as_str(), state)?;
     }
     Ok(states)
 }

@@ -1,16 +1,15 @@
 //! Choice rules that are malformed.
 
 ghost use Rattle.std.specs.Prelude.{◌≡◌, ◌==◌, ◌&&◌, IfOk, codes};
-ghost use Rattle.serde_json.specs.View.{view};
+ghost use Rattle.unum_json.specs.Parsed.{view};
 ghost use Rattle.serde_json.specs.Find.{get};
 ghost use Rattle.asl_read.specs.Objects.{keys, has, has_any};
 ghost use Rattle.asl_read.specs.Choices.{joins, is_beside, count_heads, is_empty_array, has_lone_backslash, is_malformed};
 
 use crate::objects::has;
 use choice_rules::{Pattern, PatternError};
-use serde_json::Value;
 use std::alloc::Global;
-use unum_json::NoMemory;
+use unum_json::{NoMemory, Value};
 
 fn is_beside(key: &str) -> bool
     ensures { result ≡ is_beside key.now }
@@ -26,8 +25,8 @@ fn has_one_head(value: &Value) -> bool
         return false;
     };
     let mut heads = 0u8;
-    for (key, _member) in members.iter() {
-        if !is_beside(key.as_str()) {
+    for member in members.as_slice() {
+        if !is_beside(member.0.as_str()) {
             if heads == 1 {
                 return false;
             }

@@ -4,11 +4,11 @@ ghost use Rattle.std.specs.Prelude.{◌≡◌, map, option_map};
 ghost use Rattle.asl_read.specs.Objects.{row_of, need_of, find_row, how_at, has, has_any, key_rule, key_faults, is_needed, is_missing, missing_faults, stands_beside};
 ghost use Rattle.asl_read.specs.Checks.{Checks};
 ghost use Rattle.asl_read.specs.Names.{is_timestamp, left_out, names_left_out, named};
-ghost use Rattle.serde_json.specs.View.{view};
+ghost use Rattle.unum_json.specs.Parsed.{view};
 
 use crate::fault::{LRule, ReadFault, refused_at};
-use serde_json::Value;
 use std::alloc::Global;
+use unum_json::Value;
 
 /// When a field has to stand in its object.
 #[derive(Clone, Copy)]
@@ -194,9 +194,10 @@ pub fn check_keys<H>(
     let Some(members) = value.as_object() else {
         return Ok(());
     };
-    for (key, _member) in members.iter() {
-        if let Some(rule) = key_rule(value, rows, out, key.as_str()) {
-            return refused_at(alloc, rule, key.as_str());
+    for member in members.as_slice() {
+        let key = member.0.as_str();
+        if let Some(rule) = key_rule(value, rows, out, key) {
+            return refused_at(alloc, rule, key);
         }
     }
     Ok(())

@@ -1,15 +1,14 @@
 //! What follows a state, and what it does about errors.
 
 ghost use Rattle.std.specs.Prelude.{◌≡◌, IfOk, map, codes};
-ghost use Rattle.serde_json.specs.View.{view};
+ghost use Rattle.unum_json.specs.Parsed.{view};
 ghost use Rattle.asl_read.specs.Parts.{after_in, retrier_of, catcher_of, care_in, list_in};
 
 use crate::shapes::path_if;
 use crate::values::{list_in, number_in, text_if, text_in, texts_in, truth_in};
 use asl_model::{After, Care, Catcher, Retrier};
-use serde_json::Value;
 use std::alloc::Global;
-use unum_json::{Items, NoMemory};
+use unum_json::{Items, NoMemory, Value};
 
 pub(crate) fn after_in(alloc: Global, value: &Value) -> Result<After, NoMemory>
     ensures { IfOk result (λ a. a ≡ after_in (view value.now)) }

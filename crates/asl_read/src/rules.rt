@@ -2,7 +2,7 @@
 
 ghost use Rattle.std.specs.Prelude.{◌≡◌, ◌&&◌, [], IfOk, IsTrue, None, map, codes, option_map, unwrap_or};
 ghost use Rattle.serde_json.specs.Find.{get};
-ghost use Rattle.serde_json.specs.View.{view};
+ghost use Rattle.unum_json.specs.Parsed.{view};
 ghost use Rattle.unum_json.specs.declared.value.Json.{out-Json};
 ghost use Rattle.choice_rules.specs.Compared.{is_allowed, is_of_kind};
 ghost use Rattle.choice_rules.specs.Patterns.{pattern_of};
@@ -16,10 +16,9 @@ use crate::values::{list_in, text_in, text_of, truth_of, whole_of};
 use asl_model::TopRule;
 use asl_paths::Path;
 use choice_rules::{Comparison, NonEmpty, Op, OpKind, Operand, Pattern, PatternError, Rel, Rule};
-use serde_json::Value;
 use sqlite_items::Boxed;
 use std::alloc::Global;
-use unum_json::{Items, Json, NoMemory, Text};
+use unum_json::{Items, Json, NoMemory, Text, Value};
 
 /// The operators, by their keys.
 const OPERATORS: [(&'static str, Operator); 28] = [

@@ -1,7 +1,7 @@
 //! Paths, templates and data flow.
 
 ghost use Rattle.std.specs.Prelude.{◌≡◌, [], IfOk, IsTrue, true};
-ghost use Rattle.serde_json.specs.View.{view};
+ghost use Rattle.unum_json.specs.Parsed.{view};
 ghost use Rattle.asl_shape.specs.Stages.{is_plain};
 ghost use Rattle.asl_read.specs.Parts.{path_at, path_in, path_if, path_or_null, path_in_text, template_at, template_if, shape_in, pass_shape_in, path_shape_in, map_shape_in, item_template_in};
 
@@ -9,9 +9,8 @@ use crate::values::json_of;
 use asl_model::{ItemTemplate, MapShape, PassShape, PathShape};
 use asl_paths::{Path, PathError, Template, TemplateError};
 use asl_shape::Shape;
-use serde_json::Value;
 use std::alloc::Global;
-use unum_json::NoMemory;
+use unum_json::{NoMemory, Value};
 
 /// The path of a text, or `$`.
 fn path_in_text(alloc: Global, text: &str) -> Result<Path, NoMemory>

@@ -1,14 +1,13 @@
 //! What a value says as a text, a number, a path and so on.
 
 ghost use Rattle.std.specs.Prelude.{◌≡◌, [], IfOk, Option, map, option_map, option_and_then};
-ghost use Rattle.serde_json.specs.View.{view};
+ghost use Rattle.unum_json.specs.Parsed.{view};
 ghost use Rattle.serde_json.specs.Find.{get};
 ghost use Rattle.unum_json.specs.Whole.{of_data};
 ghost use Rattle.asl_read.specs.Parts.{text_of, truth_of, whole_of, json_of, text_if, text_in, truth_in, items_of, list_in, number_in, within};
 
-use serde_json::Value;
 use std::alloc::Global;
-use unum_json::{Items, Json, NoMemory, Text, WholeError, to_json};
+use unum_json::{Items, Json, NoMemory, Text, Value, WholeError, to_json};
 
 /// The text, or the empty one.
 pub fn text_of(alloc: Global, value: &Value) -> Result<Text, NoMemory>

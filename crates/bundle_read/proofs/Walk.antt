@@ -1,7 +1,7 @@
 -- The first walk, one part after another: the first that breaks something answers it.
-use Rattle.std.proofs.Common.{◌≡◌, ℕ, ◌+◌, ◌<◌, List, [], ◌∷◌, ◌++◌, length, drop, get_or, string_bytes, String, Global, Some, Err, sym, ap, subst, ◌∙◌}
-use Rattle.serde_json.specs.View.{view, items_view, members_view}
-use Rattle.serde_json.specs.declared.value.Value.{Value}
+use Rattle.std.proofs.Common.{◌≡◌, ℕ, ◌+◌, ◌<◌, List, [], ◌∷◌, ◌++◌, length, drop, get_or, Some, Err, sym, ap, subst, ◌∙◌}
+use Rattle.unum_json.specs.Parsed.{view, items_view, members_view}
+use Rattle.unum_json.specs.declared.parsed.Value.{Value}
 use Rattle.unum_json.specs.Whole.{index_step, key_step}
 use Rattle.asl_read.specs.Objects.{Broken, under}
 use Rattle.asl_read.specs.Checks.{Checks, first}
@@ -31,8 +31,8 @@ item_found p whole all i item e so_far lt is h =
     subst (Refuses e) (sym (so_far ∙ ap (λ vs. item_faults p i (items_view vs)) (rest_is all i item lt is)))
     (in_front e (under (index_step i) (part_faults p (view item))) (item_faults p (i + 1) (items_view (drop (i + 1) all))) h)
 
-pub member_found : (form : Form) (whole : List Broken) (rest left : Entries) (m : String Global × Value) (e : ReadFault) → whole ≡ member_faults form (members_view rest) → rest ≡ m ∷ left
-    → Refuses e (under (key_step (string_bytes m.0)) (part_faults (member_part form (string_bytes m.0)) (view m.1))) → Refuses e whole
-member_found form whole rest left m e so_far is h =
-    subst (Refuses e) (sym (so_far ∙ ap (λ es. member_faults form (members_view es)) is))
-    (in_front e (under (key_step (string_bytes m.0)) (part_faults (member_part form (string_bytes m.0)) (view m.1))) (member_faults form (members_view left)) h)
+pub member_found : (form : Form) (whole : List Broken) (all : Entries) (i : ℕ) (m : List ℕ × Value) (e : ReadFault) → whole ≡ member_faults form (members_view (drop i all)) → i < length all → m ≡ get_or all i m
+    → Refuses e (under (key_step m.0) (part_faults (member_part form m.0) (view m.1))) → Refuses e whole
+member_found form whole all i m e so_far lt is h =
+    subst (Refuses e) (sym (so_far ∙ ap (λ es. member_faults form (members_view es)) (rest_is all i m lt is)))
+    (in_front e (under (key_step m.0) (part_faults (member_part form m.0) (view m.1))) (member_faults form (members_view (drop (i + 1) all))) h)

@@ -1,7 +1,7 @@
 //! The second walk over a bundle's value: what it says.
 
 ghost use Rattle.std.specs.Prelude.{◌≡◌, IfOk, codes, map};
-ghost use Rattle.serde_json.specs.View.{view, items_view, members_view};
+ghost use Rattle.unum_json.specs.Parsed.{view, items_view, members_view};
 ghost use Rattle.asl_read.specs.Machines.{machine_of};
 ghost use Rattle.asl_read.specs.Parts.{json_of, items_in, items_of};
 ghost use Rattle.bundle_read.specs.Drafts.{at, draft_of, each_member, function_by, function_of, kind_of, members_of, number_of, numbers_of, plan_of, session_of};
@@ -12,9 +12,8 @@ use crate::parts::kind_named;
 use asl_model::Machine;
 use asl_read::{json_of, machine_of, text_in, whole_of};
 use fn_table::FnKind;
-use serde_json::{Map, Value};
 use std::alloc::Global;
-use unum_json::{Fault, Fields, Items, Json, NoMemory, Text};
+use unum_json::{Fault, Fields, Items, Json, NoMemory, Value, copy_text};
 
 /// The number, or the greatest `u32` where it is none.
 fn number_of(value: &Value) -> u32
@@ -173,26 +172,26 @@ fn function_of(alloc: Global, value: &Value) -> Result<FnKind, NoMemory>
 }
 
 /// The functions by name.
-fn functions_of(alloc: Global, members: &Map<String, Value>) -> Result<Fields<FnKind>, NoMemory>
-    ensures { IfOk result (λ fs. fs ≡ each_member function_of (members_view members.now.entries)) }
+fn functions_of(alloc: Global, members: &Fields<Value>) -> Result<Fields<FnKind>, NoMemory>
+    ensures { IfOk result (λ fs. fs ≡ each_member function_of (members_view members.now)) }
 {
     let mut found = Fields::new(alloc);
-    for (key, member) in members.iter() {
-        let name = Text::from_str(alloc, key.as_str())?;
-        let function = function_of(alloc, member)?;
+    for member in members.as_slice() {
+        let name = copy_text(alloc, &member.0)?;
+        let function = function_of(alloc, &member.1)?;
         found.push(name, function)?;
     }
     Ok(found)
 }
 
 /// The machines by name.
-fn machines_of(alloc: Global, members: &Map<String, Value>) -> Result<Fields<Machine>, NoMemory>
-    ensures { IfOk result (λ ms. ms ≡ each_member machine_of (members_view members.now.entries)) }
+fn machines_of(alloc: Global, members: &Fields<Value>) -> Result<Fields<Machine>, NoMemory>
+    ensures { IfOk result (λ ms. ms ≡ each_member machine_of (members_view members.now)) }
 {
     let mut found = Fields::new(alloc);
-    for (key, member) in members.iter() {
-        let name = Text::from_str(alloc, key.as_str())?;
-        let machine = machine_of(alloc, member)?;
+    for member in members.as_slice() {
+        let name = copy_text(alloc, &member.0)?;
+        let machine = machine_of(alloc, &member.1)?;
         found.push(name, machine)?;
     }
     Ok(found)

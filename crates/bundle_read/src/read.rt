@@ -3,7 +3,7 @@
 ghost use Rattle.std.specs.Prelude.{◌≡◌, [], IfOk, Some, map};
 ghost use Rattle.std.specs.Map.{keys_of};
 ghost use Rattle.unum_json.specs.Keys.{IsRising};
-ghost use Rattle.serde_json.specs.View.{view};
+ghost use Rattle.unum_json.specs.Parsed.{view};
 ghost use Rattle.bundle_read.specs.Accepted.{accepted_of, session_of, IsAccepted};
 ghost use Rattle.bundle_read.specs.Bounds.{broken_names, broken_numbers, broken_parts, broken_rules, broken_sizes};
 ghost use Rattle.bundle_read.specs.Checked.{Checks};
@@ -25,9 +25,8 @@ use crate::validity::check_machines;
 use asl_model::Machine;
 use asl_read::{LRule, ReadFault};
 use fn_table::{FnKind, Table};
-use serde_json::Value;
 use std::alloc::Global;
-use unum_json::{Fields, Items, JsonError, NoMemory, Text, read};
+use unum_json::{Fields, Items, JsonError, NoMemory, Text, Value, read};
 use unum_world::Session;
 
 /// The most bytes of a bundle.

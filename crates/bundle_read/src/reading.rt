@@ -1,7 +1,7 @@
 //! The first walk over a bundle's value: which rule of reading it breaks first.
 
 ghost use Rattle.std.specs.Prelude.{◌≡◌};
-ghost use Rattle.serde_json.specs.View.{view, items_view, members_view};
+ghost use Rattle.unum_json.specs.Parsed.{view, items_view, members_view};
 ghost use Rattle.asl_read.specs.Checks.{Checks};
 ghost use Rattle.bundle_read.specs.Faults.{named, named_by, form_of, member_part, whole_faults, field_faults, part_faults, item_faults, member_faults};
 
@@ -11,8 +11,8 @@ use asl_read::{
     How, Kind, LRule, LeftOut, ReadFault, check, check_keys, check_required, how_of, refused,
     refused_at, under_index, under_key,
 };
-use serde_json::{Map, Value};
 use std::alloc::Global;
+use unum_json::{Fields, Value};
 
 /// What an object is read as.
 #[derive(Clone, Copy)]
@@ -123,12 +123,13 @@ fn check_items(alloc: Global, part: Part, items: &Vec<Value>) -> Result<(), Read
 }
 
 #[cycle(reading)]
-fn check_members(alloc: Global, form: Form, members: &Map<String, Value>) -> Result<(), ReadFault>
-    ensures { Checks result (member_faults form (members_view members.now.entries)) }
+fn check_members(alloc: Global, form: Form, members: &Fields<Value>) -> Result<(), ReadFault>
+    ensures { Checks result (member_faults form (members_view members.now)) }
 {
-    for (key, member) in members.iter() {
-        let part = member_part(form, key.as_str());
-        under_key(alloc, key.as_str(), check_part(alloc, part, member))?;
+    for member in members.as_slice() {
+        let key = member.0.as_str();
+        let part = member_part(form, key);
+        under_key(alloc, key, check_part(alloc, part, &member.1))?;
     }
     Ok(())
 }

@@ -1,8 +1,8 @@
 -- Walks, one part after another: the first that finds something answers for the whole.
-use Rattle.std.proofs.Common.{◌≡◌, ℕ, ◌+◌, ◌<◌, ◌≤◌, List, [], ◌∷◌, ◌++◌, length, drop, get_or, string_bytes, String, Global, Some, Err, sym, ap, subst, ◌∙◌}
+use Rattle.std.proofs.Common.{◌≡◌, ℕ, ◌+◌, ◌<◌, ◌≤◌, List, [], ◌∷◌, ◌++◌, length, drop, get_or, Some, Err, sym, ap, subst, ◌∙◌}
 use Rattle.std.proofs.lemmas.List.{drop_more, drop_all}
-use Rattle.serde_json.specs.View.{view, items_view, members_view}
-use Rattle.serde_json.specs.declared.value.Value.{Value}
+use Rattle.unum_json.specs.Parsed.{view, items_view, members_view}
+use Rattle.unum_json.specs.declared.parsed.Value.{Value}
 use Rattle.unum_json.specs.declared.value.Json.{Json}
 use Rattle.unum_json.specs.Keys.{find_key}
 use Rattle.unum_json.specs.Whole.{index_step, key_step}
@@ -36,7 +36,7 @@ rest_is : {A : Type 0} (all : List A) (i : ℕ) (item : A) → i < length all �
 rest_is all i item lt is = drop_more all i item lt ∙ ap (λ x. x ∷ drop (i + 1) all) (sym is)
 
 abbrev pub Entries : Type 0
-Entries = List (String Global × Value)
+Entries = List (List ℕ × Value)
 
 -- ---------------------------------------------------------------- walks by the table
 
@@ -47,20 +47,17 @@ item_found w p whole all i item e so_far lt is h =
     subst (Refuses e) (sym (so_far ∙ ap (λ vs. item_faults w p i (items_view vs)) (rest_is all i item lt is)))
     (in_front e (under (index_step i) (part_faults w p (view item))) (item_faults w p (i + 1) (items_view (drop (i + 1) all))) h)
 
--- the key is read twice, once for its row and once for the place
-pub member_found : (w : Walk) (kind : Object) (whole : List Broken) (rest left : Entries) (m : String Global
-    × Value) (row place : List ℕ) (part : Part) (e : ReadFault)
-    → whole ≡ member_faults w kind (members_view rest) → rest ≡ m ∷ left → row ≡ string_bytes m.0 → place ≡ string_bytes m.0
-    → part ≡ member_part kind row
-    → Refuses e (under (key_step place) (part_faults w part (view m.1))) → Refuses e whole
-member_found w kind whole rest left m row place part e so_far is at_row at_place how h =
-    let k = string_bytes m.0 in
-    let here : under (key_step place) (part_faults w part (view m.1)) ≡ under (key_step k) (part_faults w (member_part kind k) (view m.1))
-    = ap (λ p. under (key_step p) (part_faults w part (view m.1))) at_place
-    ∙ ap (λ q. under (key_step k) (part_faults w q (view m.1))) (how ∙ ap (member_part kind) at_row) in
-    subst (Refuses e) (sym (so_far ∙ ap (λ es. member_faults w kind (members_view es)) is))
-    (in_front e (under (key_step k) (part_faults w (member_part kind k) (view m.1))) (member_faults w kind (members_view left))
-    (subst (Refuses e) here h))
+pub member_found : (w : Walk) (kind : Object) (whole : List Broken) (all : Entries) (i : ℕ) (m : List ℕ × Value) (key : List ℕ) (part : Part) (e : ReadFault)
+    → whole ≡ member_faults w kind (members_view (drop i all)) → i < length all → m ≡ get_or all i m
+    → key ≡ m.0 → part ≡ member_part kind key
+    → Refuses e (under (key_step key) (part_faults w part (view m.1))) → Refuses e whole
+member_found w kind whole all i m key part e so_far lt is at how h =
+    let here : under (key_step key) (part_faults w part (view m.1)) ≡ under (key_step m.0) (part_faults w (member_part kind m.0) (view m.1))
+    = ap (λ q. under (key_step key) (part_faults w q (view m.1))) how
+    ∙ ap (λ k. under (key_step k) (part_faults w (member_part kind k) (view m.1))) at in
+    subst (Refuses e) (sym (so_far ∙ ap (λ es. member_faults w kind (members_view es)) (rest_is all i m lt is)))
+    (in_front e (under (key_step m.0) (part_faults w (member_part kind m.0) (view m.1)))
+    (member_faults w kind (members_view (drop (i + 1) all))) (subst (Refuses e) here h))
 
 -- ---------------------------------------------------------------- what is printed
 
@@ -99,10 +96,9 @@ none_printed whole all printed i item so_far lt is le =
     so_far ∙ ap (λ xs. items_unlike i (items_view xs) (drop i printed)) (rest_is all i item lt is)
     ∙ ap (items_unlike i (items_view (item ∷ drop (i + 1) all))) (drop_all i printed le)
 
-pub field_found : (fs : List (List ℕ × Json)) (whole : List Broken) (rest left : Entries) (m : String Global × Value) (e : ReadFault)
-    → whole ≡ members_unlike (members_view rest) fs → rest ≡ m ∷ left
-    → Refuses e (under (key_step (string_bytes m.0)) (unlike (view m.1) (find_key (string_bytes m.0) fs))) → Refuses e whole
-field_found fs whole rest left m e so_far is h =
-    subst (Refuses e) (sym (so_far ∙ ap (λ es. members_unlike (members_view es) fs) is))
-    (in_front e (under (key_step (string_bytes m.0)) (unlike (view m.1) (find_key (string_bytes m.0) fs)))
-    (members_unlike (members_view left) fs) h)
+pub field_found : (fs : List (List ℕ × Json)) (whole : List Broken) (all : Entries) (i : ℕ) (m : List ℕ × Value) (e : ReadFault)
+    → whole ≡ members_unlike (members_view (drop i all)) fs → i < length all → m ≡ get_or all i m
+    → Refuses e (under (key_step m.0) (unlike (view m.1) (find_key m.0 fs))) → Refuses e whole
+field_found fs whole all i m e so_far lt is h =
+    subst (Refuses e) (sym (so_far ∙ ap (λ es. members_unlike (members_view es) fs) (rest_is all i m lt is)))
+    (in_front e (under (key_step m.0) (unlike (view m.1) (find_key m.0 fs))) (members_unlike (members_view (drop (i + 1) all)) fs) h)

@@ -1,7 +1,7 @@
 //! The ranges of numbers.
 
 ghost use Rattle.std.specs.Prelude.{◌≡◌, codes};
-ghost use Rattle.serde_json.specs.View.{view};
+ghost use Rattle.unum_json.specs.Parsed.{view};
 ghost use Rattle.serde_json.specs.Find.{get};
 ghost use Rattle.asl_read.specs.Checks.{Checks};
 ghost use Rattle.ir_text.specs.Ranges.{bound as bound_of, is_below as below, number_faults, number_or_null_faults, next_faults, range_faults};
@@ -9,8 +9,8 @@ ghost use Rattle.ir_text.specs.Reads.{sizes_of as size_of_tables};
 
 use crate::kinds::{Number, Part};
 use asl_read::{LRule, ReadFault, list_in, refused, under_key, whole_of};
-use serde_json::Value;
 use std::alloc::Global;
+use unum_json::Value;
 
 /// How many nodes, functions and scopes there are.
 #[derive(Clone, Copy)]
@@ -73,10 +73,9 @@ fn check_number_or_null(
 ) -> Result<(), ReadFault>
     ensures { Checks result (number_or_null_faults sizes number (view value.now)) }
 {
-    if value.is_null() {
-        Ok(())
-    } else {
-        check_number(alloc, sizes, number, value)
+    match value {
+        Value::Null => Ok(()),
+        _ => check_number(alloc, sizes, number, value),
     }
 }
 

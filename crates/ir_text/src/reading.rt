@@ -1,7 +1,7 @@
 //! Reading a flat form from the value that it is printed as.
 
 ghost use Rattle.std.specs.Prelude.{◌≡◌, ◌↔◌, IfOk, IsTrue, Ok};
-ghost use Rattle.serde_json.specs.View.{view};
+ghost use Rattle.unum_json.specs.Parsed.{view};
 ghost use Rattle.unum_json.specs.Whole.{of_data};
 ghost use Rattle.ir_text.specs.Printed.{ir_value};
 ghost use Rattle.ir_text.specs.Reads.{Blames, IsPrinted, Passes, Reads, malformed, out_of_range};
@@ -16,10 +16,9 @@ use crate::spelling::ir_of;
 use crate::texts::check_printed;
 use crate::walk::{Walk, check_part};
 use asl_read::ReadFault;
-use serde_json::Value;
 use std::alloc::Global;
 use unum_ir::{Ir, is_well_formed};
-use unum_json::{Json, NoMemory, Text, WholeError, same, to_json};
+use unum_json::{Json, NoMemory, Text, Value, WholeError, same, to_json};
 
 /// Whether a value is this JSON value.
 fn is_value(alloc: Global, value: &Value, json: &Json) -> Result<bool, NoMemory>

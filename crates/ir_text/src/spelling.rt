@@ -1,7 +1,7 @@
 //! The flat form that a value spells.
 
 ghost use Rattle.std.specs.Prelude.{◌≡◌, IfOk, Option, Some, None, map, codes, option_map, true};
-ghost use Rattle.serde_json.specs.View.{view};
+ghost use Rattle.unum_json.specs.Parsed.{view};
 ghost use Rattle.serde_json.specs.Find.{get};
 ghost use Rattle.unum_json.specs.Keys.{find_key};
 ghost use Rattle.asl_read.specs.Parts.{json_of as a_json, list_in as some_list, template_at as a_template, map_shape_in as a_map_shape};
@@ -15,10 +15,9 @@ use asl_read::{
     item_template_at, json_of, list_in, map_shape_in, number_in, pass_shape_in, path_if, path_in,
     path_shape_in, rule_of, shape_in, text_in, texts_in, whole_of,
 };
-use serde_json::Value;
 use std::alloc::Global;
 use unum_ir::{Func, Ir, Node, NodeCare, NodeCatcher, NodeRule, Op, Scope};
-use unum_json::{Items, Json, NoMemory};
+use unum_json::{Items, Json, NoMemory, Value};
 
 /// A number that fits, and for any other the greatest `u32`.
 fn number_of(value: &Value) -> u32
@@ -39,10 +38,9 @@ fn number(value: &Value, key: &str) -> u32
 fn number_or_null_of(value: &Value) -> Option<u32>
     ensures { result ≡ number_or_null_of (view value.now) }
 {
-    if value.is_null() {
-        None
-    } else {
-        Some(number_of(value))
+    match value {
+        Value::Null => None,
+        _ => Some(number_of(value)),
     }
 }
 

@@ -2,7 +2,7 @@
 
 ghost use Rattle.std.specs.Prelude.{◌≡◌, Option, Some};
 ghost use Rattle.std.specs.Option.{option_copied};
-ghost use Rattle.serde_json.specs.View.{view, items_view, members_view};
+ghost use Rattle.unum_json.specs.Parsed.{view, items_view, members_view};
 ghost use Rattle.unum_json.specs.Seen.{shape_of};
 ghost use Rattle.unum_json.specs.declared.value.Json.{out-Json};
 ghost use Rattle.asl_read.specs.Checks.{Checks};
@@ -10,9 +10,8 @@ ghost use Rattle.ir_text.specs.Texts.{text_unlike, printed_items as items_printe
 ghost use Rattle.unum_json.specs.Keys.{find_key};
 
 use asl_read::{LRule, ReadFault, refused, under_index, under_key};
-use serde_json::{Map, Value};
 use std::alloc::Global;
-use unum_json::{Json, Seen};
+use unum_json::{Fields, Json, Seen, Value};
 
 fn text_seen(alloc: Global, text: &str, printed: Seen<'_>) -> Result<(), ReadFault>
     ensures { Checks result (text_unlike text.now (shape_of printed.entry)) }
@@ -102,16 +101,13 @@ fn check_items(alloc: Global, items: &Vec<Value>, printed: &[Json]) -> Result<()
 }
 
 #[cycle(texts)]
-fn check_members(
-    alloc: Global,
-    members: &Map<String, Value>,
-    printed: &Json,
-) -> Result<(), ReadFault>
-    ensures { Checks result (members_unlike (members_view members.now.entries) (fields_printed (out-Json printed.now))) }
+fn check_members(alloc: Global, members: &Fields<Value>, printed: &Json) -> Result<(), ReadFault>
+    ensures { Checks result (members_unlike (members_view members.now) (fields_printed (out-Json printed.now))) }
 {
-    for (key, member) in members.iter() {
-        let found = printed_field(printed, key.as_str());
-        under_key(alloc, key.as_str(), check_printed(alloc, member, found))?;
+    for member in members.as_slice() {
+        let key = member.0.as_str();
+        let found = printed_field(printed, key);
+        under_key(alloc, key, check_printed(alloc, &member.1, found))?;
     }
     Ok(())
 }

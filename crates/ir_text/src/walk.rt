@@ -2,7 +2,7 @@
 
 ghost use Rattle.std.specs.Prelude.{◌≡◌, codes};
 ghost use Rattle.serde_json.specs.Find.{get};
-ghost use Rattle.serde_json.specs.View.{view, items_view, members_view};
+ghost use Rattle.unum_json.specs.Parsed.{view, items_view, members_view};
 ghost use Rattle.asl_read.specs.Checks.{Checks};
 ghost use Rattle.ir_text.specs.Tables.{ops, kinds};
 ghost use Rattle.ir_text.specs.Walks.{tagged, tag_key as key_of_tag, form_of as object_form, member_part as part_at, form_faults, whole_faults, field_faults, part_faults, item_faults, member_faults};
@@ -14,8 +14,8 @@ use asl_read::{
     How, Kind, LRule, LeftOut, ReadFault, check, check_keys, check_required, how_of, refused,
     refused_at, under_index, under_key,
 };
-use serde_json::{Map, Value};
 use std::alloc::Global;
+use unum_json::{Fields, Value};
 
 /// What a walk asks.
 #[derive(Clone, Copy)]
@@ -104,13 +104,10 @@ fn check_form(alloc: Global, part: Part, value: &Value) -> Result<(), ReadFault>
     match part {
         Part::Field(how) => check(alloc, how, value),
         Part::Number(_) => check(alloc, How::Whole, value),
-        Part::NumberOrNull(_) => {
-            if value.is_null() {
-                Ok(())
-            } else {
-                check(alloc, How::Whole, value)
-            }
-        }
+        Part::NumberOrNull(_) => match value {
+            Value::Null => Ok(()),
+            _ => check(alloc, How::Whole, value),
+        },
         Part::Rule => check(alloc, How::Object(Kind::FlatRule), value),
         _ => refused(alloc, LRule::L2),
     }
@@ -181,13 +178,14 @@ fn check_members(
     alloc: Global,
     walk: Walk,
     kind: Object,
-    members: &Map<String, Value>,
+    members: &Fields<Value>,
 ) -> Result<(), ReadFault>
-    ensures { Checks result (member_faults walk kind (members_view members.now.entries)) }
+    ensures { Checks result (member_faults walk kind (members_view members.now)) }
 {
-    for (key, member) in members.iter() {
-        let part = member_part(kind, key.as_str());
-        under_key(alloc, key.as_str(), check_part(alloc, walk, part, member))?;
+    for member in members.as_slice() {
+        let key = member.0.as_str();
+        let part = member_part(kind, key);
+        under_key(alloc, key, check_part(alloc, walk, part, &member.1))?;
     }
     Ok(())
 }

@@ -1,7 +1,7 @@
 //! Flat code: what `compile` prints of a bundle, and what `ir` tells of a text.
 
 ghost use Rattle.std.specs.Prelude.{◌≡◌, ◌≢◌, ◌≤◌, ◌++◌, [], Some, Err, flat_map, length, string_bytes, IfOk, OnOk};
-ghost use Rattle.serde_json.specs.View.{view};
+ghost use Rattle.unum_json.specs.Parsed.{view};
 ghost use Rattle.unum_ir.specs.WellFormed.{IsWellFormed};
 ghost use Rattle.unum_cli.specs.FlatCode.{compiled_line, compiled_text, flat_text, JudgesFlat, JudgesParsed, JudgesOnce};
 ghost use Rattle.unum_cli.specs.Tool.{TakesFlat};
@@ -12,11 +12,10 @@ use asl_read::LRule;
 use bundle_read::{Bundle, Refusal, RuleCode, open_bundle};
 use continuation_gen::Compiled;
 use ir_text::{IrError, print, read as read_ir};
-use serde_json::Value;
 use session_report::push_number;
 use std::alloc::Global;
 use unum_ir::Ir;
-use unum_json::{JsonError, NoMemory, Text, read};
+use unum_json::{JsonError, NoMemory, Text, Value, read};
 
 /// Adds the line of a machine.
 fn push_machine(alloc: Global, out: &mut String, row: &(Text, Compiled)) -> Result<(), NoMemory>

@@ -1,5 +1,5 @@
 -- What one comparison says of a key's place among keys that rise.
-use Rattle.std.proofs.Common.{◌≡◌, ◌+◌, ◌<◌, List, [], ◌∷◌, ◌++◌, ℕ, zero, suc, Less, Equal, Greater, Ordering, nat_cmp, refl, sym, ap, ◌∙◌, length, take, drop, get_or, arith, add-one, Some, None, Bool, true, false, not, cond, nat_lt, subst, if◌then◌else◌}
+use Rattle.std.proofs.Common.{◌≡◌, ◌+◌, ◌<◌, List, [], ◌∷◌, ◌++◌, ℕ, zero, suc, Less, Equal, Greater, Ordering, nat_cmp, refl, sym, ap, ◌∙◌, length, take, drop, get_or, arith, add-one, Some, None, Bool, true, false, not, cond, nat_lt, if◌then◌else◌}
 use Rattle.std.proofs.lemmas.Bool.{lt-ltb, le-ltb}
 use Rattle.std.proofs.lemmas.Map.Lookups.{exact_bytes}
 use Rattle.std.proofs.lemmas.Map.Text.{is_eq-slice_cmp}

@@ -1,5 +1,5 @@
 -- A part of a value has no more nodes than its parts together.
-use Rattle.std.proofs.Common.{◌≡◌, ℕ, zero, suc, ◌+◌, ◌*◌, ◌<◌, ◌≤◌, List, [], ◌∷◌, length, get_or, map, sum, arith, ap, subst}
+use Rattle.std.proofs.Common.{◌≡◌, ℕ, zero, suc, ◌+◌, ◌*◌, ◌<◌, ◌≤◌, List, [], ◌∷◌, length, get_or, map, sum, arith, ap}
 use Rattle.std.proofs.lemmas.List.Sums.{sum-map, sum_by-cons}
 use Rattle.unum_json.specs.declared.value.Json.{Json, Arr, Obj}
 use Rattle.unum_json.specs.Falls.{nodes-Arr, nodes-Obj}

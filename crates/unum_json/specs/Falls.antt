@@ -8,7 +8,7 @@ use Rattle.unum_json.specs.declared.kept.Node.{Node}
 use Rattle.unum_json.specs.declared.kept.Node.TheVariants as node
 use Rattle.unum_json.specs.declared.kept.Json.TheDeep.{deep-Node}
 use Rattle.unum_json.specs.Kept.{tree_of}
-use Rattle.unum_json.specs.Tree.{nodes, fields_sum, on_values, text_nodes}
+use Rattle.unum_json.specs.Tree.{nodes, fields_sum, on_values}
 
 pub nodes-Arr : (vs : List Json) → nodes (Arr vs) ≡ 1 + sum (map nodes vs)
 nodes-Arr vs = search (rules, the_lemmas)

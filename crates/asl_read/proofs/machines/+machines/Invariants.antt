@@ -1,10 +1,10 @@
 use Rattle.std.proofs.Common.{◌≡◌, ◌++◌, ◌*◌, ◌+◌, ◌<◌, drop}
 use Rattle.std.specs.Map.{keys_of}
 use Rattle.serde_json.specs.Data.{depth, members_depth}
-use Rattle.serde_json.specs.View.{view, members_view}
+use Rattle.unum_json.specs.Parsed.{view, members_view}
 use Rattle.unum_json.specs.Keys.{IsRising}
 use Rattle.asl_read.specs.Machines.{blocks_of, states_of}
-use Rattle.asl_read.proofs.Inside.{blocks_in, states_in, names}
+use Rattle.asl_read.proofs.Inside.{blocks_in, states_in}
 use Rattle.asl_read.proofs.machines.+machines.Given as goal
 
 abbrev pub decreases-state_of : goal.decreases-state_of
@@ -31,9 +31,9 @@ decreases-states_of l = 2 * depth (view l.value.now)
 abbrev pub invariant-blocks_of-loop-item : goal.invariant-blocks_of-loop-item
 invariant-blocks_of-loop-item l = blocks_of (view l.value) ≡ l.blocks ++ blocks_in (drop l.item-index l.item-items)
 
-abbrev pub invariant-states_of-loop-key : goal.invariant-states_of-loop-key
-invariant-states_of-loop-key l = record {
-  read : states_of (view l.value) ≡ l.states ++ states_in l.key-iterator;
-  rising : IsRising (keys_of l.states ++ names l.key-iterator);
-  low : members_depth (members_view l.key-iterator) < depth (view l.value);
+abbrev pub invariant-states_of-loop-member : goal.invariant-states_of-loop-member
+invariant-states_of-loop-member l = record {
+  read : states_of (view l.value) ≡ l.states ++ states_in (drop l.member-index l.member-items);
+  rising : IsRising (keys_of l.states ++ keys_of (drop l.member-index l.member-items));
+  low : members_depth (members_view (drop l.member-index l.member-items)) < depth (view l.value);
 }

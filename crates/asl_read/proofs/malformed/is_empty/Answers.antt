@@ -1,6 +1,6 @@
 use Rattle.std.proofs.Common.{◌==◌, length, Some, sym, ap, ◌∙◌}
-use Rattle.serde_json.specs.View.{view}
-use Rattle.serde_json.proofs.Views.{view-Array}
+use Rattle.unum_json.specs.Parsed.{view}
+use Rattle.unum_json.proofs.Views.{view-Array}
 use Rattle.asl_read.specs.Choices.{is_empty_array}
 use Rattle.asl_read.proofs.Lists.{empty_seen}
 use Rattle.asl_read.proofs.malformed.is_empty.Goals as goal

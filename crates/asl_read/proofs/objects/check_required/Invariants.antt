@@ -1,5 +1,5 @@
 use Rattle.std.proofs.Common.{◌≡◌, map, drop}
-use Rattle.serde_json.specs.View.{view}
+use Rattle.unum_json.specs.Parsed.{view}
 use Rattle.asl_read.specs.Objects.{row_of, missing_faults}
 use Rattle.asl_read.proofs.objects.check_required.Given as goal
 

@@ -1,5 +1,5 @@
 use Rattle.std.proofs.Common.{◌≡◌, drop, map}
-use Rattle.serde_json.specs.View.{view}
+use Rattle.unum_json.specs.Parsed.{view}
 use Rattle.asl_read.specs.Objects.{has_any}
 use Rattle.asl_read.proofs.objects.has_any.Given as goal
 

@@ -1,6 +1,6 @@
 use Rattle.std.proofs.Common.{◌<◌, codes, arith}
 use Rattle.serde_json.specs.Data.{depth}
-use Rattle.serde_json.specs.View.{view}
+use Rattle.unum_json.specs.Parsed.{view}
 use Rattle.asl_read.proofs.Inside.{get_depth, array_item}
 use Rattle.asl_read.proofs.rules.+rules.Goals as goal
 

@@ -1,6 +1,6 @@
 use Rattle.std.proofs.Common.{◌≡◌, ◌++◌, ◌*◌, ◌+◌, drop}
 use Rattle.serde_json.specs.Data.{depth}
-use Rattle.serde_json.specs.View.{view}
+use Rattle.unum_json.specs.Parsed.{view}
 use Rattle.asl_read.specs.Rules.{rules_of}
 use Rattle.asl_read.proofs.Inside.{rules_in}
 use Rattle.asl_read.proofs.rules.+rules.Given as goal

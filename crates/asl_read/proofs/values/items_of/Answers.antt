@@ -1,6 +1,6 @@
 use Rattle.std.proofs.Common.{map, sym, ap, ◌∙◌}
-use Rattle.serde_json.specs.View.{view}
-use Rattle.serde_json.proofs.Views.{view-Array}
+use Rattle.unum_json.specs.Parsed.{view}
+use Rattle.unum_json.proofs.Views.{view-Array}
 use Rattle.asl_read.specs.Parts.{items_of}
 use Rattle.asl_read.proofs.Lists.{items_seen}
 use Rattle.asl_read.proofs.values.items_of.Goals as goal

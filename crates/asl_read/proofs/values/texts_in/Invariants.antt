@@ -1,5 +1,5 @@
 use Rattle.std.proofs.Common.{◌≡◌, ◌++◌, map, drop}
-use Rattle.serde_json.specs.View.{view}
+use Rattle.unum_json.specs.Parsed.{view}
 use Rattle.asl_read.specs.Parts.{list_in, text_of}
 use Rattle.asl_read.proofs.values.texts_in.Given as goal
 

@@ -1,20 +1,23 @@
-use Rattle.std.proofs.Common.{◌∙◌}
+use Rattle.std.proofs.Common.{◌+◌, drop, arith}
+use Rattle.std.specs.Map.{keys_of}
 use Rattle.unum_json.proofs.Rising.{rising_front}
 use Rattle.bundle_read.specs.Drafts.{function_of}
-use Rattle.bundle_read.proofs.Values.{Goes, goes_first, goes_on, names}
+use Rattle.bundle_read.proofs.Values.{Goes, goes_first, goes_on}
 use Rattle.bundle_read.proofs.drafts.functions_of.Goals as goal
 
-pub loop-key-init : goal.loop-key-init
-loop-key-init c =
-    goes_first function_of c.args.members.now.entries _ _ c.new-found.ensures (c.into_iter-key-iterator.ensures.into_iter_gives ∙ c.iter-key-items.ensures.rest) c.iter-key-items.ensures.ordered
+pub loop-member-init : goal.loop-member-init
+loop-member-init c =
+    goes_first function_of c.args.members.now c.as_slice-member-items.result.now _ c.new-found.ensures c.as_slice-member-items.ensures.value c.as_slice-member-items.ensures.rising
 
 pub push-requires : goal.push-requires
 push-requires c =
-    let more : Goes function_of c.args.members.now.entries c.next.new.self _
-    = goes_on function_of c.args.members.now.entries _ c.next.new.self (c.in-Some.key.now, c.in-Some.member.now) c.loop-key.found c.in_ok-name.name c.in_ok-function.function c.loop-key.invariant c.in-Some.ensures.steps (c.in_ok-name.ensures ∙ c.as_str.ensures.value) c.in_ok-function.ensures in
-    rising_front _ (names c.next.new.self) more.rising
+    let i = c.loop-member.member-index in
+    let all = c.as_slice-member-items.result.now in
+    let more : Goes function_of c.args.members.now (drop (i + 1) all) _
+    = goes_on function_of c.args.members.now i all c.member-item.result c.loop-member.found c.in_ok-name.name c.in_ok-function.function c.loop-member.invariant (omega (arith, c.loop-member-test.true)) c.member-item.is c.in_ok-name.ensures c.in_ok-function.ensures in
+    rising_front _ (keys_of (drop (i + 1) all)) more.rising
 
-pub loop-key-preserved : goal.loop-key-preserved
-loop-key-preserved c =
+pub loop-member-preserved : goal.loop-member-preserved
+loop-member-preserved c =
     rw c.in_ok-push.ensures.ok
-    (goes_on function_of c.args.members.now.entries _ c.next.new.self (c.in-Some.key.now, c.in-Some.member.now) c.loop-key.found c.in_ok-name.name c.in_ok-function.function c.loop-key.invariant c.in-Some.ensures.steps (c.in_ok-name.ensures ∙ c.as_str.ensures.value) c.in_ok-function.ensures)
+    (goes_on function_of c.args.members.now c.loop-member.member-index c.as_slice-member-items.result.now c.member-item.result c.loop-member.found c.in_ok-name.name c.in_ok-function.function c.loop-member.invariant (omega (arith, c.loop-member-test.true)) c.member-item.is c.in_ok-name.ensures c.in_ok-function.ensures)

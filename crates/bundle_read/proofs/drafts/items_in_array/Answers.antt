@@ -1,5 +1,5 @@
 use Rattle.std.proofs.Common.{◌∙◌, ap, map}
-use Rattle.serde_json.specs.View.{view}
+use Rattle.unum_json.specs.Parsed.{view}
 use Rattle.bundle_read.proofs.Values.{items_seen}
 use Rattle.bundle_read.proofs.drafts.items_in_array.Goals as goal
 

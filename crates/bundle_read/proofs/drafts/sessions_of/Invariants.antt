@@ -1,5 +1,5 @@
 use Rattle.std.proofs.Common.{◌≡◌, ◌++◌, map, drop}
-use Rattle.serde_json.specs.View.{view}
+use Rattle.unum_json.specs.Parsed.{view}
 use Rattle.bundle_read.specs.Drafts.{session_of}
 use Rattle.bundle_read.proofs.drafts.sessions_of.Given as goal
 

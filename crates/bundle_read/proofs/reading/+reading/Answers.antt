@@ -1,5 +1,5 @@
-use Rattle.std.proofs.Common.{rules}
-use Rattle.serde_json.specs.View.{view, items_view, members_view}
+use Rattle.std.proofs.Common.{arith, rules}
+use Rattle.unum_json.specs.Parsed.{view, items_view, members_view}
 use Rattle.bundle_read.specs.Faults.{part_faults, item_faults, member_faults}
 use Rattle.bundle_read.proofs.Walk.{Refuses, item_found, member_found}
 use Rattle.bundle_read.proofs.reading.+reading.Goals as goal
@@ -13,8 +13,9 @@ check_items-returns-in_err-under_index t c =
 
 pub check_members-returns-in_err-under_key : goal.check_members-returns-in_err-under_key
 check_members-returns-in_err-under_key t c =
-    let here = c.in_err-under_key.ensures (part_faults c.member_part-part.result (view c.in-Some.member.now)) c.check_part.ensures in
-    let found : Refuses c.in_err-under_key.field-0.0 (member_faults c.args.form (members_view c.args.members.now.entries))
-    = member_found c.args.form _ _ c.next.new.self (c.in-Some.key.now, c.in-Some.member.now) c.in_err-under_key.field-0.0 c.loop-key.invariant c.in-Some.ensures.steps
-    (rw (c.as_str-in-loop-key.ensures.value, c.member_part-part.ensures, c.as_str.ensures.value) at here) in
+    let m = c.member-item.result in
+    let here = c.in_err-under_key.ensures (part_faults c.member_part-part.result (view m.1)) c.check_part.ensures in
+    let found : Refuses c.in_err-under_key.field-0.0 (member_faults c.args.form (members_view c.args.members.now))
+    = member_found c.args.form _ c.as_slice-member-items.result.now c.loop-member.member-index m c.in_err-under_key.field-0.0 c.loop-member.invariant (omega (arith, c.loop-member-test.true)) c.member-item.is
+    (rw (c.member_part-part.ensures, c.as_str-key.ensures) at here) in
     search rules

@@ -1,5 +1,5 @@
 use Rattle.std.proofs.Common.{rules}
-use Rattle.serde_json.specs.View.{view}
+use Rattle.unum_json.specs.Parsed.{view}
 use Rattle.ir_text.proofs.Judging.{not_printed, printed_as_spelled}
 use Rattle.ir_text.proofs.reading.check_against.Goals as goal
 

@@ -1,5 +1,5 @@
 use Rattle.std.proofs.Common.{rules}
-use Rattle.serde_json.specs.View.{view}
+use Rattle.unum_json.specs.Parsed.{view}
 use Rattle.ir_text.proofs.Judging.{reads_printed}
 use Rattle.ir_text.proofs.reading.read.Goals as goal
 

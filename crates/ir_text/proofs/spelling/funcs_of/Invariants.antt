@@ -1,5 +1,5 @@
 use Rattle.std.proofs.Common.{◌≡◌, ◌++◌, map, drop, codes}
-use Rattle.serde_json.specs.View.{view}
+use Rattle.unum_json.specs.Parsed.{view}
 use Rattle.asl_read.specs.Parts.{list_in}
 use Rattle.ir_text.specs.Spelled.{func_of}
 use Rattle.ir_text.proofs.spelling.funcs_of.Given as goal
