@@ -10,22 +10,19 @@ use Rattle.fn_table.specs.Answers.{answer}
 use Rattle.asl_model.specs.Data.{Text, Json, Outcome, combine}
 use Rattle.asl_model.specs.Names as names
 use Rattle.asl_model.specs.Names.{Scope, Place, Name, Answers, scope_of, child}
-use Rattle.asl_model.specs.Machine.{Used, state_of}
+use Rattle.asl_model.specs.Machine.{Used}
 use Rattle.asl_model.specs.Central.{Visit, name_of}
 use Rattle.asl_model.specs.Laws.{In}
-use Rattle.asl_model.specs.Lawful.{SameFan}
-use Rattle.asl_model.proofs.FanLaw.{input_at_lem}
 use Rattle.place_name.specs.declared.obj.Obj.{Obj}
 use Rattle.place_name.specs.declared.obj.Obj.TheVariants.{Check, Out, Saved, Bits}
 use Rattle.place_name.specs.Names.{Parent}
 use Rattle.world_model.specs.Operations.{Spot, OnEnter, OnTask, OnJoin, kind_on, Site, Frame, Kept, Held, KeptAs, OutcomeIs, SavedAs, BitsAre, ArgIs, Condition, Absent, Live, Tombstone, Invocation, Op, Look, Create, Set, Invoke, Mark, Ack, BitFull, BitNotFull}
 use Rattle.world_model.specs.Acts.{parent_of, join_name, join_of, acts, stop_of, due_objects}
-use Rattle.world_model.specs.Program.{Phase, Looking, Saving, Gathering, Reading, Calling, Creating, Acting, Joining, Marking, Acking, AttemptOver, Do, doing, marking, joining, asking, call_of, source, source_in, next_of, input_of, input_in, input_at, kept_of, gathering_phase, state_at, saved_phase, next_gathered_phase, entered_phase, read_phase, after_read, after_look, after_saved, after_out, after_create, after_act, called_phase}
+use Rattle.world_model.specs.Program.{Phase, Looking, Saving, Gathering, Reading, Calling, Creating, Acting, Joining, Marking, Acking, AttemptOver, Do, doing, marking, joining, asking, call_of, source, source_in, next_of, input_at, kept_of, gathering_phase, state_at, saved_phase, next_gathered_phase, entered_phase, read_phase, after_read, after_look, after_saved, after_out, after_create, after_act, called_phase}
 use Rattle.world_model.specs.World.{Opening, Session, Entry, InvState, Attempt, World, created_world, marked_world, with_bit, set_reply, has_all, bits_of, look_reply, create_reply, fresh_state, state_after_ack, with_state, entries_of, moved_world, stepped_world, answered_world, delivered_world, start, root_invs, is_do}
 use Rattle.world_model.specs.Agrees.{run_for}
 use Rattle.world_model.proofs.Gets.{get_append, place_of}
-use Rattle.world_model.proofs.Runs.{HasFan, run_one_fan, run_fan_is}
-use Rattle.world_model.proofs.Keeps.{WorldKeeps, MadeOk, kind_is, KeptOk, IsFanAt, FrameOk, FramesOk, HasEntry, ObjectOk, PhaseOk, Gathers, OpOk, has_at, adopted_stop, acts_ok, can_read, source_stays, parent_of_child, root_no_parent}
+use Rattle.world_model.proofs.Keeps.{WorldKeeps, MadeOk, kind_is, KeptOk, HasEntry, ObjectOk, PhaseOk, Gathers, OpOk, has_at, adopted_stop, acts_ok, can_read, source_stays, branch_has_input}
 use Rattle.world_model.proofs.Every.{other_get, phase_of}
 use Rattle.world_model.proofs.Leaves.{HasCount, Present, PhaseLeft, More, more_same, more_entries}
 use Rattle.world_model.proofs.Looks.{count_once}
@@ -273,24 +270,6 @@ module _ (w : World) (G : Good w) (a : ℕ) (t : Attempt) (found : slice_get w.a
 
   -- ---------------------------------------------------------------- an Enter or a Task reads its data
 
-  -- the branch's input is among those of its fan
-  input_there : (q : Parent) → parent_of (scope_of i.name.place) ≡ Some q → (count : ℕ) (raw : Json) (us : Used) → IsFanAt O J q.place raw us count → (around : List Frame) → i.site.around ≡ around → (x : Json) × (input_at around raw (Some q) ≡ Some x)
-  input_there q e count raw us d [] u = absurd (root_no_parent (scope_of i.name.place) (subst (FramesOk O J (scope_of i.name.place) i.site.block) u made.frames) q e)
-  input_there q e count raw us d (f ∷ around) u =
-      let s : Scope = scope_of i.name.place in
-      let h : FramesOk O J s i.site.block (f ∷ around) = subst (FramesOk O J s i.site.block) u made.frames in
-      let c : FrameOk O J s i.site.block f = h.0 in
-      let n : ℕ = length c.branches in
-      let here : Parent = record { place = c.place; index = c.index; count = n } in
-      let hq : q ≡ here = same_Some q here (sym e ∙ ap parent_of c.scope_is ∙ parent_of_child c.place c.index n) in
-      let fan : HasFan O J c.place d.block d.name raw us d.branches = subst (λ (z : Parent). HasFan O J z.place d.block d.name raw us d.branches) hq d.leads in
-      let same : SameFan d.block f.block d.name f.name raw c.raw us c.used d.branches c.branches = run_one_fan O J c.place d.block f.block d.name f.name raw c.raw us c.used d.branches c.branches fan c.leads in
-      let (st, inputs, is, begins, are) = run_fan_is O J c.place f.block f.name c.raw c.used c.branches c.leads in
-      let mine : slice_get inputs c.index ≡ Some c.input = input_at_lem st inputs c.index i.site.block c.input (subst (λ z. slice_get z c.index ≡ Some (i.site.block, c.input)) are c.branch_is) in
-      let e1 : input_in f.name (Some st) c.raw c.index ≡ Some c.input = subst (λ z. input_of z c.index ≡ Some c.input) (sym begins) mine in
-      let e2 : input_in f.name (state_of f.block f.name) c.raw c.index ≡ Some c.input = subst (λ z. input_in f.name z c.raw c.index ≡ Some c.input) (sym is) e1 in
-      (c.input, subst₂ (λ (y : Json) (z : ℕ). input_in f.name (state_of f.block f.name) y z ≡ Some c.input) (sym same.raw_is) (sym (ap (λ (z : Parent). z.index) hq)) e2)
-
   spent_enters : (z : Option Json) (x : Json) → z ≡ Some x → i.name.kind ≡ names.Enter → (n m : ℕ) → n ≡ 3 → m ≡ 0 → Spent O J i (entered_phase a z) n m
   spent_enters None x e k n m p q = absurd (cc)
   spent_enters (Some y) x e k n m p q = let b : before i.name.kind 0 ≡ 3 = ap (λ z. before z 0) k in (omega arith, q)
@@ -302,7 +281,7 @@ module _ (w : World) (G : Good w) (a : ℕ) (t : Attempt) (found : slice_get w.a
   read_held OnEnter s r None e (OutcomeIs x) d n m p q = absurd d
   read_held OnEnter s r None e (BitsAre is) d n m p q = absurd d
   read_held OnEnter s r (Some y) e (SavedAs c x us) d n m p q =
-      let g = input_there y e c x us d i.site.around refl in
+      let g = branch_has_input O J i made y e c x us d i.site.around refl in
       spent_enters (input_at i.site.around x (parent_of (scope_of i.name.place))) g.0 (ap (input_at i.site.around x) e ∙ g.1) (kind ∙ ap kind_on s) n m p q
   read_held OnEnter s r (Some y) e (ArgIs x us) d n m p q = absurd d
   read_held OnEnter s r (Some y) e (KeptAs k) d n m p q = absurd d

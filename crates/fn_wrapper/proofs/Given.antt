@@ -36,11 +36,11 @@ has_item [] k l = absurd (omega arith)
 has_item (y ∷ xs) zero l = (y, refl)
 has_item (y ∷ xs) (suc k) l = has_item xs k (omega arith)
 
-some_is : {A : Type 0} (z : Option A) (x : A) → z ≡ Some x → IsSome z
+pub some_is : {A : Type 0} (z : Option A) (x : A) → z ≡ Some x → IsSome z
 some_is z x e = subst IsSome (sym e) refl
 
 -- the flat form of a session that is there does what its machine does
-maps_in : (o : Opening) → AreValid o → (s : ℕ) → s < length o.sessions →
+pub maps_in : (o : Opening) → AreValid o → (s : ℕ) → s < length o.sessions →
     Maps (λ f. f < ir_size (block_of o s)) (code_of_ir (flat_form (block_of o s))) machine_code (flat_site (block_of o s))
 maps_in o valid s l =
     let (x, e) = has_item o.sessions s l in

@@ -4,3 +4,4 @@ mod Paces
 mod Asks
 mod Acted
 pub mod Given
+pub mod Inputs

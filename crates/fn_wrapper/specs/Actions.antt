@@ -4,10 +4,10 @@ use Rattle.place_name.specs.Names.{Scope, Parent, scope_of}
 use Rattle.unum_ir.specs.declared.ir.Ir.{Ir}
 use Rattle.unum_ir.specs.Calls.{combined, enter_of}
 use Rattle.world_model.specs.AnyCode.Names.{parent_of}
-use Rattle.world_model.specs.AnyCode.Code.{Json, Outcome, Stop, Code}
+use Rattle.world_model.specs.AnyCode.Code.{Outcome, Stop, Code}
 use Rattle.world_model.specs.AnyCode.Operations.{Kept, Held, Invocation, Op, Invoke, Reply}
 use Rattle.world_model.specs.AnyCode.Acts.{enter_at, set_ops, width_around, acts_of, acts}
-use Rattle.world_model.specs.AnyCode.Program.{Phase, Gathering, Acting, kept_of, gathered_phase, branch_input, read_phase, after_out}
+use Rattle.world_model.specs.AnyCode.Program.{Phase, Gathering, Acting, kept_of, gathered_phase, read_phase, after_out}
 use Rattle.continuation_gen.specs.Coded.{code_of_ir}
 use Rattle.fn_wrapper.specs.declared.replies.Branches.{Branches}
 
@@ -45,10 +45,6 @@ heard_of ir site ticket b r = after_out (combined ir site) ticket b.count b.raw 
 -- a Join's checkpoint with that answer
 abbrev pub kept_with : (ticket : ℕ) → Branches → Outcome → Kept
 kept_with ticket b o = kept_of b.raw b.used ticket o b.count
-
--- the input of a branch, by what its fan saved
-abbrev pub input_by : Code ℕ → Invocation ℕ → (raw : Json) → Option Json
-input_by code i raw = branch_input code (code.join_around i.site) raw (parent_of (scope_of i.name.place))
 
 -- where an Enter or a Task has read that
 abbrev pub read_of : Code ℕ → Invocation ℕ → (ticket : ℕ) → Held (List Bool) → Phase

@@ -1,11 +1,13 @@
 -- What an instance's calls take as given: that what it does next is in range.
 use Rattle.std.specs.Prelude.{ℕ, ◌≡◌, Bool, List, Option, Some, length, slice_get, IsSome}
-use Rattle.place_name.specs.Names.{Scope, IsName, IsParent}
+use Rattle.place_name.specs.declared.kind.Kind.TheVariants as kinds
+use Rattle.place_name.specs.Names.{Scope, Parent, IsName, IsParent, scope_of}
+use Rattle.world_model.specs.AnyCode.Names.{parent_of}
 use Rattle.world_model.specs.AnyCode.Code.{Code, Json, Used, Stop}
-use Rattle.world_model.specs.AnyCode.Operations.{Kept, Invocation, Op, Look, Create, Set, Invoke, Mark, Ack}
+use Rattle.world_model.specs.AnyCode.Operations.{Kept, Invocation, Op, Look, Create, Set, Invoke, Mark, Ack, Reply, WasLive, SavedAs}
 use Rattle.world_model.specs.AnyCode.Acts.{stop_of, acts_of}
 use Rattle.world_model.specs.AnyCode.Program.{Phase, Saving, Gathering, Reading, Calling, Creating, Acting, Doing, Do, Ask, Nothing}
-use Rattle.world_model.specs.AnyCode.Program.{next_of}
+use Rattle.world_model.specs.AnyCode.Program.{branch_input, next_of}
 use Rattle.world_ranges.specs.Roles.{HasRoom}
 use Rattle.world_ranges.specs.Ranges.{IsObject, IsHeldBy, IsPhase, DoesFew}
 
@@ -59,3 +61,13 @@ CopiesData (Calling raw used) = Unit {0}
 CopiesData (Creating k) = Unit {0}
 CopiesData (Acting k m) = m ≡ 0
 CopiesData _ = ⊥
+
+-- the input of a branch, by what its fan saved
+abbrev pub input_by : Code ℕ → Invocation ℕ → (raw : Json) → Option Json
+input_by code i raw = branch_input code (code.join_around i.site) raw (parent_of (scope_of i.name.place))
+
+-- where the Enter of a branch has read what its fan saved, the branch has its input by it
+abbrev pub HasInput : Code ℕ → Invocation ℕ → Phase → Reply (List Bool) → Type 0
+HasInput code i ph reply =
+    (q : Parent) (count : ℕ) (raw : Json) (used : Used) → ph ≡ Reading → i.name.kind ≡ kinds.Enter →
+    parent_of (scope_of i.name.place) ≡ Some q → reply ≡ WasLive (SavedAs count raw used) → IsSome (input_by code i raw)

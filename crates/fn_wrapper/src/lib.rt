@@ -10,7 +10,7 @@ mod replies;
 mod stopping;
 
 pub use acts::{act_at, act_count};
-pub use laws::attempts_are_ready;
+pub use laws::{attempts_are_ready, branches_have_inputs};
 pub use program::{is_call, next};
 pub use replies::{Instance, absorb, called};
 pub use stopping::stop_at;

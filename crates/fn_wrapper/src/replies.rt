@@ -1,15 +1,16 @@
 //! Where an attempt stands after a reply, and after its function's answer.
-ghost use Rattle.std.specs.Prelude.{◌≡◌, ◌+◌, ◌<◌, ◌≤◌, ◌++◌, ◌∷◌, [], suc, cond, nat_lt, true, length, IfOk, IfErr, OnOk, OnErr};
+ghost use Rattle.std.specs.Prelude.{◌≡◌, ◌+◌, ◌<◌, ◌≤◌, ◌++◌, ◌∷◌, [], suc, cond, nat_lt, true, length, Some, IsSome, IfOk, IfErr, OnOk, OnErr};
 ghost use Rattle.place_name.specs.declared.kind.Kind.TheVariants as kind;
+ghost use Rattle.place_name.specs.Names.{Parent, scope_of};
 ghost use Rattle.world_model.specs.AnyCode.Names.{parent_of};
-ghost use Rattle.world_model.specs.AnyCode.Operations.{Kept};
+ghost use Rattle.world_model.specs.AnyCode.Operations.{Kept, WasLive};
 ghost use Rattle.world_model.specs.AnyCode.Acts.{due_objects};
-ghost use Rattle.world_model.specs.AnyCode.Program.{Phase, Gathering, Creating, Acting, Marking, Acking, adopted_phase, after_saved};
+ghost use Rattle.world_model.specs.AnyCode.Program.{Phase, Reading, Gathering, Creating, Acting, Marking, Acking, adopted_phase, after_saved};
 ghost use Rattle.world_model.specs.AnyCode.Program.{entered_phase, after_read, after_look, after_create, after_act, absorb, called_phase};
 ghost use Rattle.unum_ir.specs.Calls.{combined};
 ghost use Rattle.continuation_gen.specs.Coded.{code_of_ir as code_of};
-ghost use Rattle.fn_wrapper.specs.Actions.{IsCountOfActs, with_one, gathering_of, gathered_of, heard_of, kept_with, input_by, read_of};
-ghost use Rattle.fn_wrapper.specs.Ready.{IsReady, ReadsData};
+ghost use Rattle.fn_wrapper.specs.Actions.{IsCountOfActs, with_one, gathering_of, gathered_of, heard_of, kept_with, read_of};
+ghost use Rattle.fn_wrapper.specs.Ready.{IsReady, ReadsData, HasInput, input_by};
 
 use crate::copies::copy_outcomes;
 use crate::names::parent_of;
@@ -18,7 +19,7 @@ use intermediate_gc::due;
 use place_name::{Kind, MOST_BRANCHES, MOST_SEGS, Name};
 use std::alloc::Global;
 use std::mem;
-use unum_ir::{Ir, combine, input_of, parent_of as join_around};
+use unum_ir::{Ir, combine, input_given, parent_of as join_around};
 use unum_json::{Items, Json, NoMemory, Outcome};
 use world_types::{Held, Invocation, Kept, Phase, Reply, Used};
 
@@ -320,17 +321,20 @@ fn input_at(
     invocation: &Invocation<u32>,
     raw: &Json,
 ) -> Result<Option<Json>, NoMemory>
+    requires { (q : Parent) → parent_of (scope_of invocation.now.name.place) ≡ Some q → IsSome (input_by (code_of ir.now) invocation.now raw.now) }
     ensures { IfOk result (λ x. x ≡ input_by (code_of ir.now) invocation.now raw.now) }
 {
     let parent = parent_of(&invocation.name.place.scope());
-    match (join_around(ir, invocation.site), parent) {
-        (Some(join), Some(parent)) => input_of(alloc, ir, join, parent.index, raw),
-        _ => Ok(None),
-    }
+    let (Some(join), Some(parent)) = (join_around(ir, invocation.site), parent) else {
+        return Ok(None);
+    };
+    let input = input_given(alloc, ir, join, parent.index, raw)?;
+    Ok(Some(input))
 }
 
 /// The phase of an Enter or a Task with its data.
 fn read_as(alloc: Global, instance: Instance<'_>, found: Held<Bitmap>) -> Result<Phase, NoMemory>
+    requires { HasInput (code_of instance.ir.now) instance.invocation.now Reading (WasLive found) }
     ensures { let it = instance.entry in IfOk result (λ p. p ≡ read_of (code_of it.ir.now) it.invocation.now it.ticket found) }
 {
     let Instance {
@@ -359,6 +363,7 @@ fn read_as(alloc: Global, instance: Instance<'_>, found: Held<Bitmap>) -> Result
 
 /// The phase of an Enter or a Task after the look at its data.
 fn read(alloc: Global, instance: Instance<'_>, reply: Reply<Bitmap>) -> Result<Phase, NoMemory>
+    requires { HasInput (code_of instance.ir.now) instance.invocation.now Reading reply }
     ensures { let it = instance.entry in IfOk result (λ p. p ≡ after_read (code_of it.ir.now) it.invocation.now it.ticket reply) }
 {
     match reply {
@@ -505,6 +510,7 @@ fn absorbed(
 ) -> Result<Phase, Phase>
     requires ready { IsReady (code_of instance.ir.now) instance.invocation.now phase }
     requires acts { IsCountOfActs (code_of instance.ir.now) instance.invocation.now phase acts }
+    requires input { HasInput (code_of instance.ir.now) instance.invocation.now phase reply }
     ensures ok { let it = instance.entry in IfOk result (λ p. p ≡ absorb (code_of it.ir.now) it.invocation.now it.ticket phase reply) }
     ensures err { IfErr result (λ p. p ≡ phase) }
     ensures memory { OnErr result (ReadsData phase) }
@@ -556,7 +562,8 @@ fn after_call(ticket: u32, phase: Phase, outcome: Outcome) -> Phase
 }
 
 /// Takes the reply to what an attempt does next, and moves the attempt to the phase that follows. What is not there although it was
-/// expected sends it back to its first look. While it acts, `acts` is how many acts its instance has.
+/// expected sends it back to its first look. While it acts, `acts` is how many acts its instance has. Of what its fan saved a branch
+/// makes its own input alone.
 ///
 /// The only error is want of memory, at the reading of data alone; the phase then stays.
 pub fn absorb(
@@ -568,6 +575,7 @@ pub fn absorb(
 ) -> Result<(), NoMemory>
     requires ready { IsReady (code_of instance.ir.now) instance.invocation.now phase.old }
     requires acts { IsCountOfActs (code_of instance.ir.now) instance.invocation.now phase.old acts }
+    requires input { HasInput (code_of instance.ir.now) instance.invocation.now phase.old reply }
     ensures ok { let x = instance.entry in OnOk result (phase.new ≡ absorb (code_of x.ir.now) x.invocation.now x.ticket phase.old reply) }
     ensures err { OnErr result (phase.new ≡ phase.old) }
     ensures memory { OnErr result (ReadsData phase.old) }

@@ -1,6 +1,6 @@
 -- The count of the inputs that were made.
-use Rattle.std.proofs.Common.{◌≡◌, refl, Result, Ok, Err, ℕ, ◌+◌, ◌-◌, ◌^◌, ◌<◌, ◌≤◌, min, map, List, [], ◌∷◌, ◌++◌, ap, ◌∙◌, sym, arith}
-use Rattle.std.specs.Prelude.{sum, sum_by}
+use Rattle.std.proofs.Common.{◌≡◌, refl, Result, Ok, Err, ℕ, ◌+◌, ◌-◌, ◌^◌, ◌<◌, ◌≤◌, min, map, List, [], ◌∷◌, ◌++◌, ap, ◌∙◌, arith}
+use Rattle.std.specs.Prelude.{sum}
 use Rattle.std.proofs.lemmas.List.Sums.{sum-map, sum_by-append, sum_by-cons}
 use Rattle.unum_json.specs.declared.value.Json.{Json, Arr}
 use Rattle.unum_json.specs.Tree.{nodes}

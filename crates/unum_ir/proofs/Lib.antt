@@ -10,3 +10,5 @@ pub mod Counting
 pub mod Tagging
 pub mod Leading
 pub mod Keeping
+pub mod OneInput
+pub mod OneFilling

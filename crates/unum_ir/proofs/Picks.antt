@@ -1,10 +1,10 @@
 -- The rules of a Choice are tried in their order.
-use Rattle.std.proofs.Common.{◌≡◌, ℕ, ◌+◌, ◌<◌, List, ◌∷◌, map, drop, length, get_or, slice_get, Option, Ok, true, false, refl, sym, ap, ◌∙◌}
+use Rattle.std.proofs.Common.{◌≡◌, ℕ, ◌+◌, ◌<◌, List, ◌∷◌, drop, length, get_or, slice_get, Option, Ok, true, false, refl, sym, ap, ◌∙◌}
 use Rattle.std.specs.Option.{option_map}
 use Rattle.std.proofs.lemmas.List.{drop_more}
 use Rattle.std.proofs.lemmas.Option.{slice_get-map, slice_get_read}
 use Rattle.choice_rules.specs.Evaluating.{Answer, matches, chosen, choose_from}
-use Rattle.asl_model.specs.Data.{Text, Json, Rule, and_then, or_path_failure}
+use Rattle.asl_model.specs.Data.{Json, and_then, or_path_failure}
 use Rattle.asl_model.specs.Head.{picked}
 use Rattle.unum_ir.specs.Flat.{NodeRule}
 use Rattle.unum_ir.specs.Kinds.{next_from, some_next, rules_in, nexts_in}

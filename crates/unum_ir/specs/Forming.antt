@@ -1,5 +1,5 @@
 -- Parts of the tests of a well formed flat form.
-use Rattle.std.specs.Prelude.{ℕ, suc, Bool, nat_lt, ◌&&◌, ◌==◌, if◌then◌else◌, map, List, [], ◌∷◌, Option, Some, None}
+use Rattle.std.specs.Prelude.{ℕ, suc, nat_lt, ◌&&◌, ◌==◌, if◌then◌else◌, map, List, [], ◌∷◌, Option, Some, None}
 use Rattle.asl_model.specs.Data.{Text}
 use Rattle.asl_model.specs.Head.{CatcherOf}
 use Rattle.unum_ir.specs.declared.func_tests.Tag.{Tag}

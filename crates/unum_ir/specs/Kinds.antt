@@ -1,6 +1,6 @@
 -- What the kinds of nodes do, where an error of their own data flow is left to whoever calls.
 -- Source: Amazon States Language, "State Types".
-use Rattle.std.specs.Prelude.{◌≡◌, ℕ, ◌≤◌, ◌-◌, ◌^◌, min, List, ◌++◌, map, Option, Some, None, Result, Ok, Err, false}
+use Rattle.std.specs.Prelude.{◌≡◌, ℕ, ◌≤◌, ◌-◌, ◌^◌, min, List, ◌++◌, map, slice_get, Option, Some, None, Result, Ok, Err, false}
 use Rattle.unum_json.specs.declared.value.Json as json
 use Rattle.unum_json.specs.Tree.{nodes}
 use Rattle.asl_paths.specs.Filling.{fill}
@@ -72,6 +72,11 @@ abbrev pub map_fans : Shape → (items : Path) → (selector : Option Template) 
 map_fans shape items selector raw = and_then (prepared shape raw) (λ x. and_then (map_inputs items selector x) (λ inputs. Ok (Fans inputs)))
 
 -- ---- inputs and outputs
+
+-- the input with that index, where there are any
+abbrev pub input_at : (index : ℕ) → Result (List Json) Text → Option Json
+input_at index (Ok inputs) = slice_get inputs index
+input_at index (Err e) = None
 
 -- what the item template makes of the item with this number
 abbrev pub item_input : Template → Json → Json → ℕ → Made

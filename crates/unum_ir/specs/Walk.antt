@@ -1,6 +1,6 @@
 -- One node of a walk, whatever follows it.
-use Rattle.std.specs.Prelude.{◌≡◌, ℕ, List, [], Option, Some, None}
-use Rattle.asl_model.specs.Data.{Text, Json}
+use Rattle.std.specs.Prelude.{◌≡◌, ℕ, Option}
+use Rattle.asl_model.specs.Data.{Json}
 use Rattle.asl_model.specs.Head.{Used}
 use Rattle.unum_ir.specs.declared.walks.Step.{Step}
 use Rattle.unum_ir.specs.declared.walks.Step.TheVariants as step

@@ -8,8 +8,11 @@ ghost use Rattle.unum_ir.specs.Views.{begun_of};
 
 use crate::beginning::begin;
 use crate::combining::put_together;
+use crate::flow::prepare;
+use crate::inputs::{map_input, map_input_given, parallel_input};
 use crate::ir::{Func, Ir, Node, Op};
 use crate::onward::Begun;
+use crate::trouble::FlowError;
 use crate::walks::{name_in, node_at};
 use std::alloc::Global;
 use unum_json::{Items, Json, NoMemory, Outcome, Text, copy};
@@ -52,20 +55,6 @@ pub fn effective(alloc: Global, ir: &Ir, func: u32, raw: &Json) -> Result<Json, 
     Ok(found.unwrap())
 }
 
-/// The input with that index, and the others dropped.
-fn taken(inputs: Items<Json>, index: u32) -> Option<Json>
-    ensures { result ≡ slice_get inputs index }
-{
-    let mut inputs = inputs;
-    if index as usize >= inputs.len() {
-        drop(inputs);
-        return None;
-    }
-    let taken = inputs.remove(index as usize);
-    drop(inputs);
-    Some(taken)
-}
-
 /// The input of the branch with that index, by the raw data with which the fan of a Join was entered. `None` exactly where
 /// the function is no fan's, where these raw data give it no inputs, or past the last of them.
 ///
@@ -84,12 +73,54 @@ pub fn input_of(
     let Some(node) = its_node(ir, func) else {
         return Ok(None);
     };
-    match begin(alloc, node, raw)? {
-        Begun::Fans(inputs) => Ok(taken(inputs, index)),
-        other => {
-            drop(other);
-            Ok(None)
-        }
+    match &node.op {
+        Op::Parallel { shape, scopes, .. } => match prepare(alloc, shape, raw) {
+            Ok(prepared) => parallel_input(alloc, scopes.len(), index, &prepared),
+            Err(FlowError::Named(_)) => Ok(None),
+            Err(FlowError::NoMemory) => Err(NoMemory),
+        },
+        Op::Map {
+            shape,
+            items,
+            selector,
+            ..
+        } => match prepare(alloc, shape.shape(), raw) {
+            Ok(prepared) => map_input(alloc, items, selector, index, &prepared),
+            Err(FlowError::Named(_)) => Ok(None),
+            Err(FlowError::NoMemory) => Err(NoMemory),
+        },
+        _ => Ok(None),
+    }
+}
+
+/// The same, where there is one. Of a Map's inputs none is made for the other branches.
+///
+/// The only error is want of memory.
+///
+/// Source: Amazon States Language, "Parallel State" and "Map State".
+pub fn input_given(
+    alloc: Global,
+    ir: &Ir,
+    func: u32,
+    index: u32,
+    raw: &Json,
+) -> Result<Json, NoMemory>
+    requires { IsSome (read.input_of ir.now func index raw.now) }
+    ensures { IfOk result (λ x. read.input_of ir.now func index raw.now ≡ Some x) }
+{
+    let node = its_node(ir, func).unwrap();
+    match &node.op {
+        Op::Map {
+            shape,
+            items,
+            selector,
+            ..
+        } => match prepare(alloc, shape.shape(), raw) {
+            Ok(prepared) => map_input_given(alloc, items, selector, index, &prepared),
+            Err(FlowError::Named(_)) => unreachable!(),
+            Err(FlowError::NoMemory) => Err(NoMemory),
+        },
+        _ => Ok(input_of(alloc, ir, func, index, raw)?.unwrap()),
     }
 }
 

@@ -2,14 +2,14 @@
 //!
 //! Source: Amazon States Language, "Parallel State" and "Map State".
 
-ghost use Rattle.std.specs.Prelude.{◌≡◌, ◌≤◌, ◌-◌, ◌^◌, ◌++◌, ◌∷◌, [], min, length, nat_le, List, IfOk};
+ghost use Rattle.std.specs.Prelude.{◌≡◌, ◌≤◌, ◌-◌, ◌^◌, ◌++◌, ◌∷◌, [], min, length, nat_le, List, IfOk, IsSome, slice_get, Some, None};
 ghost use Rattle.unum_json.specs.Tree.{nodes as node_count};
 ghost use Rattle.unum_json.specs.Seen.{shape_of};
 ghost use Rattle.unum_json.specs.declared.value.Json as json;
 ghost use Rattle.asl_paths.specs.Lookup.{get};
 ghost use Rattle.asl_model.specs.Data.{Json as ModelJson, repeat, and_then, fitting, parallel_inputs, array_in, array_of, selected, map_inputs};
 ghost use Rattle.unum_ir.specs.Given.{Gives};
-ghost use Rattle.unum_ir.specs.Kinds.{item_input, Keeps};
+ghost use Rattle.unum_ir.specs.Kinds.{item_input, input_at, Keeps};
 
 use crate::trouble::{FlowError, StateError};
 use asl_model::ItemTemplate;
@@ -177,5 +177,137 @@ pub fn map_inputs(
     match selector {
         None => own_items(alloc, found),
         Some(template) => select(alloc, template, value, found),
+    }
+}
+
+/// The input with that index of a Parallel with so many branches. All of them are the same, so none is made for the others.
+///
+/// Source: Amazon States Language, "Parallel State".
+#[tactic(auto, unfolding(asl_model::specs::Data::parallel_inputs))]
+pub fn parallel_input(
+    alloc: Global,
+    count: usize,
+    index: u32,
+    value: &Json,
+) -> Result<Option<Json>, NoMemory>
+    ensures { IfOk result (λ x. x ≡ input_at index (parallel_inputs count value.now)) }
+{
+    if index as usize >= count {
+        return Ok(None);
+    }
+    if !copies_fit(count, value) {
+        return Ok(None);
+    }
+    Ok(Some(copy(alloc, value)?))
+}
+
+/// The item with that index.
+fn item_at(alloc: Global, items: &Items<Json>, index: u32) -> Result<Option<Json>, NoMemory>
+    ensures { IfOk result (λ x. x ≡ slice_get items.now index) }
+{
+    match items.get(index as usize) {
+        Some(item) => Ok(Some(copy(alloc, item)?)),
+        None => Ok(None),
+    }
+}
+
+/// The input with that index of a Map without an item template: the item itself, and none is made for the others.
+fn own_item(alloc: Global, items: &Path, index: u32, value: &Json) -> Result<Option<Json>, NoMemory>
+    ensures { IfOk result (λ x. x ≡ input_at index (map_inputs items.now None value.now)) }
+{
+    let Some(found) = items.get(value) else {
+        return Ok(None);
+    };
+    let Seen::Arr(list) = found.seen() else {
+        return Ok(None);
+    };
+    if list.len() > MOST_ITEMS {
+        return Ok(None);
+    }
+    if nodes(found) > MOST_NODES {
+        return Ok(None);
+    }
+    item_at(alloc, list, index)
+}
+
+/// The input with that index among these, which are dropped.
+fn taken(inputs: Items<Json>, index: u32) -> Option<Json>
+    ensures { result ≡ slice_get inputs index }
+{
+    let mut inputs = inputs;
+    if index as usize >= inputs.len() {
+        drop(inputs);
+        return None;
+    }
+    let taken = inputs.remove(index as usize);
+    drop(inputs);
+    Some(taken)
+}
+
+/// The input with that index of a Map. With an item template all of them are made, since one that fails leaves none.
+///
+/// Source: Amazon States Language, "Map State".
+pub fn map_input(
+    alloc: Global,
+    items: &Path,
+    selector: &Option<ItemTemplate>,
+    index: u32,
+    value: &Json,
+) -> Result<Option<Json>, NoMemory>
+    ensures { IfOk result (λ x. x ≡ input_at index (map_inputs items.now selector.now value.now)) }
+{
+    if let None = selector {
+        return own_item(alloc, items, index, value);
+    }
+    match map_inputs(alloc, items, selector, value) {
+        Ok(inputs) => Ok(taken(inputs, index)),
+        Err(FlowError::Named(_)) => Ok(None),
+        Err(FlowError::NoMemory) => Err(NoMemory),
+    }
+}
+
+/// The input with that index of a Map with an item template, where there is one: what the template makes of that item. Nothing is
+/// made of the others.
+///
+/// Source: Amazon States Language, "ItemSelector".
+fn filled_item(
+    alloc: Global,
+    items: &Path,
+    template: &ItemTemplate,
+    index: u32,
+    value: &Json,
+) -> Result<Json, NoMemory>
+    requires { IsSome (input_at index (map_inputs items.now (Some template.now) value.now)) }
+    ensures { IfOk result (λ x. input_at index (map_inputs items.now (Some template.now) value.now) ≡ Some x) }
+{
+    let list = match array_at(items, value) {
+        Ok(list) => list,
+        Err(FlowError::Named(_)) => unreachable!(),
+        Err(FlowError::NoMemory) => return Err(NoMemory),
+    };
+    let item = list.get(index as usize).unwrap();
+    match fill_item(alloc, template, value, item, index) {
+        Ok(input) => Ok(input),
+        Err(FlowError::Named(_)) => unreachable!(),
+        Err(FlowError::NoMemory) => Err(NoMemory),
+    }
+}
+
+/// The input with that index of a Map, where there is one. None is made for the others.
+///
+/// Source: Amazon States Language, "Map State".
+pub fn map_input_given(
+    alloc: Global,
+    items: &Path,
+    selector: &Option<ItemTemplate>,
+    index: u32,
+    value: &Json,
+) -> Result<Json, NoMemory>
+    requires { IsSome (input_at index (map_inputs items.now selector.now value.now)) }
+    ensures { IfOk result (λ x. input_at index (map_inputs items.now selector.now value.now) ≡ Some x) }
+{
+    match selector {
+        None => Ok(own_item(alloc, items, index, value)?.unwrap()),
+        Some(template) => filled_item(alloc, items, template, index, value),
     }
 }

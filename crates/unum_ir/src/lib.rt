@@ -24,7 +24,9 @@ mod trouble;
 mod walks;
 mod well_formed;
 
-pub use asking::{combine, effective, enter_of, input_of, parent_of, resource_of, retriers, width};
+pub use asking::{
+    combine, effective, enter_of, input_given, input_of, parent_of, resource_of, retriers, width,
+};
 pub use beginning::begin;
 pub use finishing::finish;
 pub use flow::{failure, hand_on, prepare, put_error, put_out};

@@ -27,10 +27,11 @@ use Rattle.unum_world.specs.Openings.{opening_as, codes_of}
 use Rattle.unum_world.specs.Traces.{world_of}
 use Rattle.unum_world.specs.OneStep.{is_won, entries_won, one_mark, inv_of_op, messages_after, phase_acts, stops_with, op_takes_memory, doing_takes_memory, inv_takes_memory, att_takes_memory, takes_memory}
 use Rattle.unum_world.specs.Kept.{ChangesRoom, Keeps, Holds, twins_with}
-use Rattle.unum_world.specs.Instances.{Runs, CanMove, IsDo, IsPrepared, MayAdopt, doing_at, next_at, queue_moved, queue_operated, adopted_stop}
+use Rattle.unum_world.specs.Instances.{Runs, CanMove, IsGiven, IsDo, IsPrepared, MayAdopt, doing_at, next_at, queue_moved, queue_operated, adopted_stop}
 use Rattle.unum_world.proofs.Parts.{world_from}
 use Rattle.unum_world.proofs.TwinLists.{twins_stay}
 use Rattle.unum_world.proofs.Givens.{next_is, fit_at, can_move, runs_within}
+use Rattle.unum_world.proofs.Inputs.{given_at}
 use Rattle.unum_world.proofs.Keeps.{are_stops, has_stops}
 use Rattle.unum_world.proofs.Journals.{copies_take, adopts_take}
 use Rattle.unum_world.proofs.OneSteps.{may_step, messages_are, step_world, step_keeps}
@@ -149,6 +150,11 @@ module _ (o : Opening) (m : WorldState) (h : Holds o m) (a inv : ℕ) (i : Invoc
       pub still_moves : (acts : ℕ) → ((t : Attempt) → slice_get q.atts a ≡ Some t → IsCountOfActs (code_of_ir ir) i t.phase acts) →
           CanMove ir i p.hub.queue a acts
       still_moves acts f = subst (λ (x : Hub). CanMove ir i x.queue a acts) (sym c.hub) (can_move o m h a inv i ir r acts f)
+
+      pub still_given : IsGiven ir i (slice_get p.hub.queue.atts a) (reply_to flags (objects_of p.hub.store) op)
+      still_given =
+          subst (λ (x : Hub). IsGiven ir i (slice_get x.queue.atts a) (reply_to flags (objects_of x.store) op)) (sym c.hub)
+          (given_at o m h a inv i ir r op d)
 
       pub still_does : next_at ir i p.hub.queue a ≡ Do op
       still_does = ap (λ (x : Hub). next_at ir i x.queue a) c.hub ∙ d

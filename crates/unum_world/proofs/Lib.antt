@@ -11,6 +11,7 @@ pub mod Choices
 pub mod Opened
 pub mod Enabling
 pub mod Givens
+pub mod Inputs
 pub mod Keeps
 pub mod Journals
 pub mod EventEffects

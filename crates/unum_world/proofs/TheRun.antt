@@ -17,6 +17,7 @@ use Rattle.continuation_gen.specs.Laws.{AreValid}
 use Rattle.continuation_gen.proofs.Running.{every_ir_run_is_sound, sizes, stands}
 use Rattle.world_ranges.proofs.Running.{every_ir_run_is_in_range}
 use Rattle.fn_wrapper.proofs.Given.{every_attempt_is_ready}
+use Rattle.fn_wrapper.proofs.Inputs.{every_branch_has_input}
 use Rattle.unum_world.specs.declared.opening.Session.{Session}
 use Rattle.unum_world.specs.declared.opening.Opening.{Opening}
 use Rattle.unum_world.specs.declared.session.SessionState.{SessionState}
@@ -61,6 +62,7 @@ holds_of o most h room m s =
       fits = s.fits;
       range = every_ir_run_is_in_range (opening_as o) s.valid few h w s.is_run;
       ready = every_attempt_is_ready (opening_as o) s.valid few h w s.is_run;
+      inputs = every_branch_has_input (opening_as o) s.valid few h w s.is_run;
       running = runs_on o h w s.valid s.is_run;
       bounded = run_bounded (opening_as o) (codes_of o) h w 4294967294 s.is_run (omega (arith, k));
       kept = s.kept;

@@ -16,7 +16,7 @@ use Rattle.invoke_queue.specs.Queue.{Lists, with_attempt, attempt_after_move}
 use Rattle.unum_hub.specs.declared.hub.Hub.{Hub}
 use Rattle.unum_hub.specs.Holding.{NumberedOp, queue_after}
 use Rattle.fn_wrapper.specs.Actions.{IsCountOfActs}
-use Rattle.fn_wrapper.specs.Ready.{IsReady, IsStopOf, ReadsData}
+use Rattle.fn_wrapper.specs.Ready.{IsReady, IsStopOf, ReadsData, HasInput}
 use Rattle.unum_world.specs.declared.opening.Opening.{Opening}
 use Rattle.unum_world.specs.declared.world_state.WorldState.{WorldState}
 use Rattle.unum_world.specs.declared.prepared.Prepared.{Prepared}
@@ -68,7 +68,12 @@ pub record CanMove (ir : Ir) (i : Invocation ℕ) (q : Lists) (attempt acts : �
   pub ready : IsReady (code_of_ir ir) i att.phase
   pub acts_are : IsCountOfActs (code_of_ir ir) i att.phase acts
 
--- and so that it takes an answer
+-- and that reply gives it its input, where it is a branch's Enter that reads what its fan saved
+abbrev pub IsGiven : Ir → Invocation ℕ → Option Attempt → Reply (List Bool) → Type 0
+IsGiven ir i None r = Unit {0}
+IsGiven ir i (Some t) r = HasInput (code_of_ir ir) i t.phase r
+
+-- what is taken as given of an attempt so that it takes an answer
 pub record CanAnswer (q : Lists) (attempt : ℕ) : Type 0 where
   pub att : Attempt
   pub attempt_is : slice_get q.atts attempt ≡ Some att

@@ -15,7 +15,7 @@ use Rattle.invoke_queue.specs.Queue.{Lists}
 use Rattle.continuation_gen.specs.Laws.{AreValid}
 use Rattle.world_ranges.specs.Flat.{IsInRangeOfForms}
 use Rattle.fn_wrapper.specs.Ready.{IsStopOf}
-use Rattle.fn_wrapper.specs.Laws.{AllAreReady}
+use Rattle.fn_wrapper.specs.Laws.{AllAreReady, AllHaveInputs}
 use Rattle.unum_world.specs.declared.opening.Opening.{Opening}
 use Rattle.unum_world.specs.declared.world_state.WorldState.{WorldState}
 use Rattle.unum_world.specs.Openings.{opening_as, codes_of, Fits}
@@ -68,12 +68,13 @@ pub record IsBounded (n : ℕ) (w : Numbered) : Type 0 where
   pub steps : (a : ℕ) (t : Attempt) → slice_get w.atts a ≡ Some t → t.steps ≤ n
   pub marks : w.marks ≤ n
 
--- The world is in range, each attempt has what its instance's calls take as given, the queue's counts are right and attempts that
--- live go on, and one event more keeps all numbers in 32 bits.
+-- The world is in range, each attempt has what its instance's calls take as given and each branch its input, the queue's counts are
+-- right and attempts that live go on, and one event more keeps all numbers in 32 bits.
 pub record Holds (o : Opening) (m : WorldState) : Type 0 where
   pub fits : Fits o
   pub range : IsInRangeOfForms (opening_as o) (world_of o m)
   pub ready : AllAreReady (opening_as o) (world_of o m)
+  pub inputs : AllHaveInputs (opening_as o) (world_of o m)
   pub running : IsRunning (codes_of o) (world_of o m)
   pub bounded : IsBounded 4294967294 (world_of o m)
   pub kept : Keeps o m

@@ -19,7 +19,7 @@ ghost use Rattle.fn_wrapper.specs.Ready.{CopiesData};
 ghost use Rattle.unum_world.specs.Openings.{codes_of};
 ghost use Rattle.unum_world.specs.Traces.{world_of};
 ghost use Rattle.unum_world.specs.OneStep.{is_won, entries_won, phase_acts, stops_with, op_takes_memory, takes_memory};
-ghost use Rattle.unum_world.specs.Instances.{CanMove, CanRun, Runs, IsDo, next_at, queue_replied, queue_operated, ReadsAt};
+ghost use Rattle.unum_world.specs.Instances.{CanMove, CanRun, IsGiven, Runs, IsDo, next_at, queue_replied, queue_operated, ReadsAt};
 ghost use Rattle.unum_world.specs.Kept.{stop_in, twins_with, Keeps, Holds};
 
 use crate::flat::form_of;
@@ -139,7 +139,8 @@ fn move_on(
     reply: Reply<Bitmap>,
     acts: u32,
 ) -> Result<(), NoMemory>
-    requires { CanMove instance.ir.now instance.invocation.now queue.old instance.ticket acts }
+    requires moves { CanMove instance.ir.now instance.invocation.now queue.old instance.ticket acts }
+    requires input { IsGiven instance.ir.now instance.invocation.now (slice_get queue.old.atts instance.ticket) reply }
     ensures ok { let it = instance.entry in OnOk result (queue.new ≡ queue_replied it.ir.now it.invocation.now queue.old it.ticket reply) }
     ensures err { OnErr result (queue.new ≡ queue.old) }
     ensures memory { OnErr result (ReadsAt (slice_get queue.old.atts instance.entry.ticket)) }
@@ -178,6 +179,7 @@ fn operate(
 ) -> Result<bool, NoMemory>
     requires fit { IsFit hub.old.queue instance.ticket op }
     requires moves { CanMove instance.ir.now instance.invocation.now hub.old.queue instance.ticket acts }
+    requires input { IsGiven instance.ir.now instance.invocation.now (slice_get hub.old.queue.atts instance.ticket) (reply_to flags (objects_of hub.old.store) op) }
     requires does { next_at instance.ir.now instance.invocation.now hub.old.queue instance.ticket ≡ Do op }
     requires goes_on { op ≢ Ack }
     ensures objects { OnOk result (objects_of hub.new.store ≡ objects_after flags (objects_of hub.old.store) op) }

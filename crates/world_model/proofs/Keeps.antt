@@ -8,7 +8,7 @@ use Rattle.asl_model.specs.Data.{Text, Json, Null, Outcome, Done, combine}
 use Rattle.asl_model.specs.Names as names
 use Rattle.asl_model.specs.Names.{Seg, Scope, Place, Name, at_hop, scope_of, child, Holds}
 use Rattle.asl_model.specs.Machine.{Used, Block, State, state_of, limit_of}
-use Rattle.asl_model.specs.Step.{Begun, Calls, Fans}
+use Rattle.asl_model.specs.Step.{Begun, Calls}
 use Rattle.asl_model.specs.Central.{Visited, Entered, Called, Joined, Visit, kind_of as kind_at, name_of}
 use Rattle.asl_model.specs.Stretch.{Stop, Call, Fan, Over, after}
 use Rattle.asl_model.specs.Laws.{In, LeadsTo, Grows, IsGrown, IsSound, FollowedBy}
@@ -1152,10 +1152,29 @@ arg_is o j i m x us c =
     let one : c.visit ≡ m.visit = run_once o j i.name.place.session c.visit m.visit c.in_run m.in_run (c.name_is ∙ sym m.name_is) in
     subst (λ (z : Visit). InputIs z z.visited x us) one c.input_is
 
-input_some : (name : Text) (st : State) (inputs : List Json) (raw : Json) (index : ℕ) (x y : Json) → rules.begin name st raw ≡ Fans inputs → slice_get inputs index ≡ Some y → input_in name (Some st) raw index ≡ Some x → y ≡ x
-input_some name st inputs raw index x y b s e =
-    let P : Begun → Type 0 = λ z. input_of z index ≡ Some x in
-    same_Some y x (sym s ∙ subst P b e)
+-- what the fan of a branch saved gives the branch its input
+saved_input : (o : Opening) (j : List Entry) (s : Scope) (b : Block) (f : Frame) (c : FrameOk o j s b f) (around : List Frame) (q : Parent) → parent_of s ≡ Some q → (count : ℕ) (raw : Json) (us : Used) → IsFanAt o j q.place raw us count →
+    input_at (f ∷ around) raw (Some q) ≡ Some c.input
+saved_input o j s b f c around q e count raw us d =
+    let n : ℕ = length c.branches in
+    let here : Parent = record { place = c.place; index = c.index; count = n } in
+    let hq : q ≡ here = same_Some q here (sym e ∙ ap parent_of c.scope_is ∙ parent_of_child c.place c.index n) in
+    let fan_saved : HasFan o j c.place d.block d.name raw us d.branches = subst (λ (z : Parent). HasFan o j z.place d.block d.name raw us d.branches) hq d.leads in
+    let same : SameFan d.block f.block d.name f.name raw c.raw us c.used d.branches c.branches = run_one_fan o j c.place d.block f.block d.name f.name raw c.raw us c.used d.branches c.branches fan_saved c.leads in
+    let (st, inputs, found, begins, are) = run_fan_is o j c.place f.block f.name c.raw c.used c.branches c.leads in
+    let mine : slice_get inputs c.index ≡ Some c.input = input_at_lem st inputs c.index b c.input (subst (λ z. slice_get z c.index ≡ Some (b, c.input)) are c.branch_is) in
+    let given : input_in f.name (Some st) c.raw c.index ≡ Some c.input = subst (λ z. input_of z c.index ≡ Some c.input) (sym begins) mine in
+    let at : input_in f.name (state_of f.block f.name) c.raw c.index ≡ Some c.input = subst (λ z. input_in f.name z c.raw c.index ≡ Some c.input) (sym found) given in
+    subst₂ (λ (y : Json) (z : ℕ). input_in f.name (state_of f.block f.name) y z ≡ Some c.input) (sym same.raw_is) (sym (ap (λ (z : Parent). z.index) hq)) at
+
+-- so each branch has one
+pub branch_has_input : (o : Opening) (j : List Entry) (i : Invocation) → MadeOk o j i → (q : Parent) → parent_of (scope_of i.name.place) ≡ Some q → (count : ℕ) (raw : Json) (us : Used) → IsFanAt o j q.place raw us count →
+    (around : List Frame) → i.site.around ≡ around → (x : Json) × (input_at around raw (Some q) ≡ Some x)
+branch_has_input o j i m q e count raw us d [] u =
+    absurd (root_no_parent (scope_of i.name.place) (subst (FramesOk o j (scope_of i.name.place) i.site.block) u m.frames) q e)
+branch_has_input o j i m q e count raw us d (f ∷ around) u =
+    let h : FramesOk o j (scope_of i.name.place) i.site.block (f ∷ around) = subst (FramesOk o j (scope_of i.name.place) i.site.block) u m.frames in
+    (h.0.input, saved_input o j (scope_of i.name.place) i.site.block f h.0 around q e count raw us d)
 
 -- the input with its index is what a branch's Enter is given
 branch_input : (o : Opening) (j : List Entry) (i : Invocation) (m : MadeOk o j i) → i.site.spot ≡ OnEnter → i.name.place.hop ≡ 0 → i.name.kind ≡ names.Enter → (q : Parent) → parent_of (scope_of i.name.place) ≡ Some q → (count : ℕ) (raw : Json) (us : Used) → IsFanAt o j q.place raw us count →
@@ -1166,15 +1185,7 @@ branch_input o j i m spot hop kind q e count raw us d (f ∷ around) u x g =
     let h : FramesOk o j s i.site.block (f ∷ around) = subst (FramesOk o j s i.site.block) u m.frames in
     let c : FrameOk o j s i.site.block f = h.0 in
     let n : ℕ = length c.branches in
-    let here : Parent = record { place = c.place; index = c.index; count = n } in
-    let hq : q ≡ here = same_Some q here (sym e ∙ ap parent_of c.scope_is ∙ parent_of_child c.place c.index n) in
-    let fan_saved : HasFan o j c.place d.block d.name raw us d.branches = subst (λ (z : Parent). HasFan o j z.place d.block d.name raw us d.branches) hq d.leads in
-    let same : SameFan d.block f.block d.name f.name raw c.raw us c.used d.branches c.branches = run_one_fan o j c.place d.block f.block d.name f.name raw c.raw us c.used d.branches c.branches fan_saved c.leads in
-    let (st, inputs, found, begins, are) = run_fan_is o j c.place f.block f.name c.raw c.used c.branches c.leads in
-    let mine : slice_get inputs c.index ≡ Some c.input = input_at_lem st inputs c.index i.site.block c.input (subst (λ z. slice_get z c.index ≡ Some (i.site.block, c.input)) are c.branch_is) in
-    let index : q.index ≡ c.index = ap (λ (z : Parent). z.index) hq in
-    let at : input_in f.name (Some st) c.raw c.index ≡ Some x = subst (λ z. input_in f.name z c.raw c.index ≡ Some x) found (subst₂ (λ (y : Json) (z : ℕ). input_in f.name (state_of f.block f.name) y z ≡ Some x) same.raw_is index g) in
-    let given : c.input ≡ x = input_some f.name st inputs c.raw c.index x c.input begins mine at in
+    let given : c.input ≡ x = same_Some c.input x (sym (saved_input o j s i.site.block f c around q e count raw us d) ∙ g) in
     let w : Branch o j c.place c.index n i.site.block c.input = branch_at o j c.place f.block f.name c.raw c.used c.branches c.leads c.index i.site.block c.input c.branch_is in
     let names : name_of w.visit ≡ name_of m.visit = w.name_is ∙ sym (name_there i.name hop kind (child c.place c.index n) c.scope_is) ∙ sym m.name_is in
     let session : c.place.session ≡ i.name.place.session = ap (λ (z : Scope). z.session) (sym c.scope_is) in

@@ -16,6 +16,7 @@ pub mod Pace
 pub mod Computed
 pub mod Alike
 pub mod Asks
+pub mod Inputs
 pub mod Leaves
 pub mod Looks
 pub mod Traces

@@ -137,6 +137,18 @@ absorb_less e D i a (AttemptOver b) r = refl
 gathered_same : (f g : Combine) → ((os : List Outcome) → f os ≡ g os) → (a c : ℕ) (x : Json) (u : Used) (os : List Outcome) → gathered_phase f a c x u os ≡ gathered_phase g a c x u os
 gathered_same f g e a c x u os = ap (λ (o : Outcome). cond (nat_lt (length os) c) (Gathering c x u os) (Creating (kept_of x u a o c))) (e os)
 
+input_by : {S T : Type 0} (good : S → Type 0) (C : Code S) (D : Code T) (h : S → T) → Maps good C D h → (j : Option S) → ((y : S) → j ≡ Some y → good y) → (x : Json) (q : Option Parent) →
+    branch_input D (option_map h j) x q ≡ branch_input C j x q
+input_by good C D h m None k x q = refl
+input_by good C D h m (Some j) k x None = refl
+input_by good C D h m (Some j) k x (Some q) = m.input_of j (k j refl) q.index x
+
+-- a branch has the same input
+pub same_input : {S T : Type 0} (good : S → Type 0) (C : Code S) (D : Code T) (h : S → T) → Maps good C D h → (s : S) → good s → (x : Json) (q : Option Parent) →
+    branch_input D (D.join_around (h s)) x q ≡ branch_input C (C.join_around s) x q
+same_input good C D h m s g x q =
+    ap (λ j. branch_input D j x q) (m.join_around s g) ∙ input_by good C D h m (C.join_around s) (λ j e. m.around s j g e) x q
+
 module _ (S T B E : Type 0) (none : E) (h : ℕ → S → T) (good : ℕ → S → Type 0) (C : Codes S) (D : Codes T) (maps : (s : ℕ) → Maps (good s) (C s) (D s) (h s)) where
   abbrev pub op_as : Op S B → Op T E
   op_as (Look o) = Look o
@@ -322,15 +334,8 @@ module _ (S T B E : Type 0) (none : E) (h : ℕ → S → T) (good : ℕ → S �
 
     -- ---------------------------------------------------------------- what is taken in
 
-    input_as : (j : Option S) → ((y : S) → j ≡ Some y → good s y) → (x : Json) (q : Option Parent) → branch_input (D s) (option_map (h s) j) x q ≡ branch_input (C s) j x q
-    input_as None k x q = refl
-    input_as (Some j) k x None = refl
-    input_as (Some j) k x (Some q) = M.input_of j (k j refl) q.index x
-
     branch_as : (x : Json) (q : Option Parent) → branch_input (D s) ((D s).join_around (h s i.site)) x q ≡ branch_input (C s) ((C s).join_around i.site) x q
-    branch_as x q =
-        ap (λ (j : Option T). branch_input (D s) j x q) (M.join_around i.site g)
-        ∙ input_as ((C s).join_around i.site) (λ j e. M.around i.site j g e) x q
+    branch_as x q = same_input (good s) (C s) (D s) (h s) M i.site g x q
 
     read_by : (a : ℕ) (k : Kind) (x : Held B) → read_phase (D s) (inv_as h i) a k x ≡ read_phase (C s) i a k x
     read_by a names.Enter (SavedAs c x u) = ap (entered_phase a) (branch_as x (parent_of (scope_of i.name.place)))

@@ -20,6 +20,7 @@ use Rattle.world_model.proofs.Every.{every_run_agrees}
 use Rattle.world_model.proofs.Finishes.{every_run_takes_nothing_early}
 use Rattle.world_model.proofs.Pace.{every_run_keeps_pace}
 use Rattle.world_model.proofs.Asks.{every_call_is_one}
+use Rattle.world_model.proofs.Inputs.{every_branch_has_input}
 use Rattle.world_model.proofs.Alike.{every_run_ends_alike}
 use Rattle.world_model.proofs.Quiets.{every_quiet_session_has_ended}
 use Rattle.world_model.proofs.Drains.{every_drained_world_rests}
@@ -78,6 +79,7 @@ module _ (o : Opening) (codes : Codes ℕ) (sites : ℕ → ℕ → Site) (size 
         nothing_early = every_run_takes_nothing_early o events z q;
         keeps_pace = every_run_keeps_pace o events z q;
         calls = every_call_is_one o events z q;
+        inputs = every_branch_has_input o events z q;
         ends = λ steady call answers s x e. every_run_ends_alike o events z q steady call answers s x e;
         quiet_ended = λ s x e. every_quiet_session_has_ended o events z q s x e;
         at_rest = λ f. every_drained_world_rests o events z q

@@ -8,6 +8,7 @@ pub mod World
 pub mod Journals
 pub mod Agrees
 pub mod Asking
+pub mod Inputs
 pub mod Collecting
 pub mod Paced
 pub mod Rows

@@ -17,6 +17,7 @@ use Rattle.world_model.specs.World.{Session, Opening, World, Event, first, run}
 use Rattle.world_model.specs.Journals.{run_of}
 use Rattle.world_model.specs.Agrees.{Agrees}
 use Rattle.world_model.specs.Asking.{CallsOne}
+use Rattle.world_model.specs.Inputs.{HasInputs}
 use Rattle.world_model.specs.Collecting.{TakesNothingEarly}
 use Rattle.world_model.specs.Paced.{KeepsPace}
 use Rattle.world_model.specs.Quiet.{IsQuiet, HasEnded, IsSwept}
@@ -48,6 +49,7 @@ pub record IsSoundWorld (o : Opening) (codes : Codes ℕ) (sites : ℕ → ℕ �
   pub nothing_early : TakesNothingEarly (image sites w objects)
   pub keeps_pace : KeepsPace (image sites w objects)
   pub calls : CallsOne (image sites w objects)
+  pub inputs : HasInputs (image sites w objects)
   pub ends :
       AllSteady o.functions → (call : Functions) → AnswerAs o.functions call → (s : ℕ) (x : Session) → slice_get o.sessions s ≡ Some x →
       EndsAlike (image sites w objects) call s x

@@ -11,6 +11,7 @@ ghost use Rattle.world_model.specs.Sites.{Site};
 ghost use Rattle.world_model.specs.AnyCode.Queue.{EveryQueueIsRight};
 ghost use Rattle.world_model.specs.Agrees.{EveryRunAgrees};
 ghost use Rattle.world_model.specs.Asking.{EveryCallIsOne};
+ghost use Rattle.world_model.specs.Inputs.{EveryBranchHasInput};
 ghost use Rattle.world_model.specs.Collecting.{EveryRunTakesNothingEarly};
 ghost use Rattle.world_model.specs.Paced.{EveryRunKeepsPace};
 ghost use Rattle.world_model.specs.Steady.{EveryRunEndsAlike};
@@ -40,6 +41,11 @@ pub fn keeps_pace()
 /// Whatever happens, an attempt that waits for its function has a function to call.
 pub fn calls_are_made()
     ensures { EveryCallIsOne }
+{}
+
+/// Whatever happens, what a fan saved gives each of its branches its input, while it is there.
+pub fn branches_have_inputs()
+    ensures { EveryBranchHasInput }
 {}
 
 /// Where no function looks at its ticket, whatever happens makes no difference: the outcome of every session that has ended

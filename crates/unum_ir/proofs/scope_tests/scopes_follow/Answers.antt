@@ -1,6 +1,4 @@
 use Rattle.std.proofs.Common.{length, Some, None, ap, ◌∙◌}
-use Rattle.std.specs.Prelude.{◌==◌}
-use Rattle.unum_ir.specs.Forming.{counted_up}
 use Rattle.unum_ir.specs.WellFormed.{scopes_below, same_numbers, range}
 use Rattle.unum_ir.proofs.Counting.{counts_all}
 use Rattle.unum_ir.proofs.scope_tests.scopes_follow.Goals as goal

@@ -2,6 +2,7 @@ use Rattle.std.proofs.Common.{sym, refl, arith}
 use Rattle.unum_world.specs.declared.world_state.WorldState.{WorldState}
 use Rattle.invoke_queue.proofs.Kept.{where_ok}
 use Rattle.unum_world.proofs.Givens.{can_run, can_move, runs_room, runs_within, where_err, not_refused}
+use Rattle.unum_world.proofs.Inputs.{ack_given}
 use Rattle.unum_world.proofs.OneSteps.{no_read, still_lives, ack_world, ack_keeps}
 use Rattle.unum_world.proofs.steps.acknowledge.Goals as goal
 
@@ -10,10 +11,13 @@ count_acts-acts-requires c =
     let it = c.args.instance in
     can_run c.args.o.now c.args.now.now c.requires.holds it.ticket c.args.inv it.invocation.now it.ir.now c.requires.runs
 
-pub move_on-requires : goal.move_on-requires
-move_on-requires c =
+pub move_on-requires-clause-moves : goal.move_on-requires-clause-moves
+move_on-requires-clause-moves c =
     let it = c.args.instance in
     can_move c.args.o.now c.args.now.now c.requires.holds it.ticket c.args.inv it.invocation.now it.ir.now c.requires.runs c.count_acts-acts.result c.count_acts-acts.ensures
+
+pub move_on-requires-clause-input : goal.move_on-requires-clause-input
+move_on-requires-clause-input c = ack_given c.args.instance.ir.now c.args.instance.invocation.now _
 
 pub unreachable-requires : goal.unreachable-requires
 unreachable-requires c =

@@ -3,7 +3,7 @@ use Rattle.std.specs.Prelude.{IsSome}
 use Rattle.world_types.specs.declared.queue.Entry.{Entry}
 use Rattle.unum_world.specs.declared.world_state.WorldState.{WorldState}
 use Rattle.unum_world.proofs.Givens.{can_run}
-use Rattle.unum_world.proofs.Carried.{room_world, room_keeps, refused_world, refused_keeps, is_there, few_messages, prepared_memory, still_fit, still_moves, still_does, still_within, marks_fit, twin_room, carried_world, carried_keeps}
+use Rattle.unum_world.proofs.Carried.{room_world, room_keeps, refused_world, refused_keeps, is_there, few_messages, prepared_memory, still_fit, still_moves, still_given, still_does, still_within, marks_fit, twin_room, carried_world, carried_keeps}
 use Rattle.unum_world.proofs.steps.carry.Goals as goal
 
 pub count_acts-acts-requires : goal.count_acts-acts-requires
@@ -48,6 +48,12 @@ operate-requires-clause-moves c =
     let it = c.args.instance in
     still_moves c.args.o.now c.args.now.now c.requires.holds it.ticket c.args.inv it.invocation.now it.ir.now c.requires.runs c.args.op c.requires.does
     c.prepare.new.now c.in-Ok.ensures.same c.count_acts-acts.result c.count_acts-acts.ensures
+
+pub operate-requires-clause-input : goal.operate-requires-clause-input
+operate-requires-clause-input c =
+    let it = c.args.instance in
+    still_given c.args.o.now c.args.now.now c.requires.holds it.ticket c.args.inv it.invocation.now it.ir.now c.requires.runs c.args.op c.requires.does
+    c.prepare.new.now c.in-Ok.ensures.same
 
 pub operate-requires-clause-does : goal.operate-requires-clause-does
 operate-requires-clause-does c =
